@@ -1,0 +1,21 @@
+-- Any two results that meet a promise are the same.
+--     same              two things that equal a third, as every promise that is an equation has it
+-- Then, for each public function, `FUNCTION-unique`. Assumes nothing.
+use mathlib.Core.Path.{_≡_, sym, _∙_}
+use mathlib.Core.List.{List}
+use Prim.Native.Nat.{ℕ}
+use lib.ListN.{getD}
+use Rattle.bits.specs.Bits.{bitAt, byteAt}
+
+pub same : {A : Type 0} {r r' v : A} → r ≡ v → r' ≡ v → r ≡ r'
+same p q = p ∙ sym q
+
+module _ (r r' : ℕ) (l : List ℕ) (k : ℕ) where
+  pub byte-of-unique : r ≡ getD l k 0 → r' ≡ getD l k 0 → r ≡ r'
+  byte-of-unique = same
+
+  pub bit-of-unique : r ≡ bitAt l k → r' ≡ bitAt l k → r ≡ r'
+  bit-of-unique = same
+
+  pub byte-from-unique : r ≡ byteAt l k → r' ≡ byteAt l k → r ≡ r'
+  byte-from-unique = same

@@ -1,0 +1,46 @@
+// Bits of bytes and bytes of bits (document 01, "Path of a reel"). Every function takes any slice and any place, and says what it gives past the end.
+ghost use mathlib.Core.Path.{_≡_};
+ghost use Prim.Native.Nat.{_+_, _%_};
+ghost use lib.ListN.{getD};
+ghost use Rattle.bits.specs.Bits.{bitAt, byteAt};
+
+// Byte i, and 0 past the end.
+pub fn byte_of(bytes: &[u8], i: usize) -> u8
+    ensures { λ r. ⌜ r ≡ getD (now (bytes .entry)) i 0 ⌝ }
+{
+    if i < bytes.len() { bytes[i] } else { 0 }
+}
+
+// Bit k, counted from 0; 0 past the end.
+pub fn bit_of(bytes: &[u8], k: usize) -> u8
+    ensures { λ r. ⌜ r ≡ bitAt (now (bytes .entry)) k ⌝ }
+{
+    (byte_of(bytes, k / 8) >> (7 - k % 8)) % 2
+}
+
+// The entry j places behind a place, as a bit. The two are apart because their sum may not fit.
+fn bit_behind(bits: &[u8], at: usize, j: usize) -> u8
+    ensures { λ r. ⌜ r ≡ getD (now (bits .entry)) (at + j) 0 % 2 ⌝ }
+{
+    let n = bits.len();
+    if n <= at {
+        return 0;
+    }
+    if n - at <= j {
+        return 0;
+    }
+    bits[at + j] % 2
+}
+
+// The byte that eight bits make, from a place of a list of bits on.
+pub fn byte_from(bits: &[u8], at: usize) -> u8
+    ensures { λ r. ⌜ r ≡ byteAt (now (bits .entry)) at ⌝ }
+{
+    let mut sum: u8 = 0;
+    let mut j: usize = 0;
+    while j < 8 {
+        sum = sum * 2 + bit_behind(bits, at, j);
+        j += 1;
+    }
+    sum
+}
