@@ -1,7 +1,7 @@
 -- Laws of answers.
 --     accepted-same         equal answers have equal values
 --     never-both            nothing is accepted and refused with a number of the paper
---     by-test               an answer that goes by a test: what it says tells which way the test went
+--     by-test, by-test-refused    an answer that goes by a test: what it says tells which way the test went
 -- Assumes nothing.
 use mathlib.Core.Path.{_≡_, refl, sym, ap, _∙_}
 use mathlib.Core.Bool.{Bool, true, false, cond}
@@ -20,3 +20,7 @@ module _ {A : Type 0} where
   pub by-test : (b : Bool) (n : ℕ) {vs ws : List A} → cond b (accepted vs) (refused (suc n)) ≡ accepted ws → (b ≡ true) × (vs ≡ ws)
   by-test true n e = (refl, accepted-same e)
   by-test false n e = absurd (never-both n e)
+
+  pub by-test-refused : (b : Bool) (vs : List A) (n m : ℕ) → cond b (accepted vs) (refused n) ≡ refused (suc m) → b ≡ false
+  by-test-refused true vs n m e = absurd (never-both m (sym e))
+  by-test-refused false vs n m e = refl

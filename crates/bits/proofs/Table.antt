@@ -7,7 +7,7 @@
 --     filled f n xs             f below n, and xs from there on
 --     filled-set, filled-part   one store; a part that was lent and came back
 --     filled-zero, filled-all   before the first store; after the last
---     both-left, both-right     two tests that pass together
+--     both-true                 two tests that pass together
 --     every-at                  what a test over a whole list says of each element: a table's rule is one such test
 --     getD-within               within a list the default does not matter
 -- Assumes nothing.
@@ -101,11 +101,15 @@ module _ {A : Type 0} where
       rw (take-at (tabulate a f) (drop a xs) a (length-tab a f), drop-at (tabulate a f) (drop a xs) a (length-tab a f), e, drop-drop, tab-add, append-assoc)
 
 -- ---- a table's rule
-pub both-left : (a b : Bool) → T (a && b) → T a
+pub both-true : (a b : Bool) → a && b ≡ true → (a ≡ true) × (b ≡ true)
+both-true true b e = (refl, e)
+both-true false b e = absurd (subst T (sym e) tt)
+
+both-left : (a b : Bool) → T (a && b) → T a
 both-left true b t = tt
 both-left false b t = t
 
-pub both-right : (a b : Bool) → T (a && b) → T b
+both-right : (a b : Bool) → T (a && b) → T b
 both-right true b t = t
 both-right false b t = absurd t
 

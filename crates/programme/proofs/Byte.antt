@@ -10,8 +10,8 @@ use mathlib.Core.List.{List, [], _∷_, _++_, append-assoc}
 use Prim.Native.Nat.{ℕ, zero, suc, _+_, _-_, _*_, _/_, _%_, _^_, _<_, _≤_}
 use native.Mathlib.Nat.{mod-lt, mod-eq-of-lt}
 use native.Mathlib.Omega.{arith}
-use borrow.Author.Tests.{le-leb, lt-leb, eq-eqb, eqb-true}
-use lib.Dec.{T, eqb, leb, leb→le}
+use borrow.Author.Tests.{le-leb, leb-true, eq-eqb, eqb-true}
+use lib.Dec.{eqb, leb}
 use lib.ListN.{length, getD, take, drop, length-append}
 use lib.Seq.{take-at, drop-at}
 use Rattle.bits.specs.Digits.{value, digits, Below}
@@ -19,7 +19,7 @@ use Rattle.bits.specs.Bits.{ones}
 use Rattle.bits.specs.Answer.{Answer, accepted, refused}
 use Rattle.bits.proofs.Digits.{length-digits, below-digits, below-append, take-digits, drop-digits, digits-append, value-append, value-snoc, value-digits, digits-value}
 use Rattle.bits.proofs.Answer.{by-test}
-use Rattle.bits.proofs.Table.{both-left, both-right}
+use Rattle.bits.proofs.Table.{both-true}
 use Rattle.bits.proofs.Bits.{ones-append, ones-digits}
 use Rattle.programme.specs.Byte.{eight, kind, music, mode, even, seven, made, readByte, writeByte}
 
@@ -102,12 +102,9 @@ in-range t m o ht hm ho = rw (le-leb t 15 ht, le-leb m 1 hm, le-leb o 3 ho)
 -- what the test on the three numbers says when it passes
 ranges : (t m o : ℕ) → leb t 15 && (leb m 1 && leb o 3) ≡ true → (t ≤ 15) × (m ≤ 1) × (o ≤ 3)
 ranges t m o good =
-    let all : T (leb t 15 && (leb m 1 && leb o 3)) = subst (λ (x : Bool). T x) (sym good) tt in
-    let two : T (leb m 1 && leb o 3) = both-right (leb t 15) (leb m 1 && leb o 3) all in (
-      leb→le t 15 (both-left (leb t 15) (leb m 1 && leb o 3) all),
-      leb→le m 1 (both-left (leb m 1) (leb o 3) two),
-      leb→le o 3 (both-right (leb m 1) (leb o 3) two),
-    )
+    let one = both-true (leb t 15) (leb m 1 && leb o 3) good in
+    let two = both-true (leb m 1) (leb o 3) (one .1) in
+    (leb-true t 15 (one .0), leb-true m 1 (two .0), leb-true o 3 (two .1))
 
 reads-made : (t m o : ℕ) → t ≤ 15 → m ≤ 1 → o ≤ 3 → readByte (made t m o) ≡ accepted (t ∷ m ∷ o ∷ [])
 unfolding readByte

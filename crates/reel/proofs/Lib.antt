@@ -1,0 +1,3 @@
+pub mod Header
+pub mod Run
+pub mod Unique
