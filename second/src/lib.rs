@@ -1,8 +1,11 @@
 //! A second reader and writer of DSR reels, written from document 01 and directive 3R1 alone.
 //! README.md says what it is for and how it is used.
 
+pub mod answer;
 pub mod bits;
 pub mod block;
+pub mod calls;
+pub mod check;
 pub mod damage;
 pub mod division;
 pub mod frame;

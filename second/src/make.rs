@@ -119,7 +119,7 @@ pub fn make(order: &Order, output: &mut impl Write) -> io::Result<()> {
         if output.left == 0 {
             return Ok(());
         }
-        let mut frames = source.next().map_err(unmade)?;
+        let mut frames = source.superframe().map_err(unmade)?;
         for (n, damage) in order.damage.iter().enumerate() {
             let mut random = Random::stream(&[order.seed, DAMAGE, n as u64, k]);
             damage.apply(k, &mut frames, &mut random);

@@ -34,7 +34,7 @@ pub fn read_header(bytes: &[u8]) -> Result<Header, Refusal> {
 /// The number of superframes in a run of this length.
 pub fn run_count(length: u64) -> Result<u64, Refusal> {
     let whole = superframe::BYTES as u64;
-    if !length.is_multiple_of(whole) || length / whole > MOST {
+    if length % whole != 0 || length / whole > MOST {
         return Err(Refusal::Length);
     }
     Ok(length / whole)

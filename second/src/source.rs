@@ -39,7 +39,8 @@ struct Sound {
 pub struct Source {
     seed: u64,
     phase: usize,
-    superframe: u64,
+    /// Of the superframe made last, counted from 1.
+    number: u64,
     /// The sound of this superframe and of the next two: scale words go two ahead.
     sound: VecDeque<Sound>,
     programmes: [u8; CHANNELS],
@@ -53,16 +54,16 @@ impl Source {
         Ok(Source {
             seed,
             phase,
-            superframe: 0,
+            number: 0,
             sound: sound.collect::<Result<_, _>>()?,
             programmes: programme_bytes(seed)?,
             labels: labels(seed),
         })
     }
 
-    pub fn next(&mut self) -> Result<Frames, Refusal> {
-        self.superframe += 1;
-        self.sound.push_back(sound(self.seed, self.superframe + 2)?);
+    pub fn superframe(&mut self) -> Result<Frames, Refusal> {
+        self.number += 1;
+        self.sound.push_back(sound(self.seed, self.number + 2)?);
         let extra = self.extra_bits()?;
         let service = self.service_bits();
         let now = &self.sound[0];
@@ -91,7 +92,7 @@ impl Source {
 
     /// The 64 extra bits of each programme, with the factors of the superframe after the next.
     fn extra_bits(&self) -> Result<Vec<Vec<Bit>>, Refusal> {
-        let mut random = Random::stream(&[self.seed, WORDS, self.superframe]);
+        let mut random = Random::stream(&[self.seed, WORDS, self.number]);
         let ahead = &self.sound[2].factors;
         let mut extra = Vec::with_capacity(PROGRAMMES);
         for programme in 0..PROGRAMMES {
@@ -109,8 +110,8 @@ impl Source {
             let place = (self.phase as u64 - 1 + superframe - 1) % CYCLE as u64;
             (place as usize / POSITIONS, place as usize % POSITIONS)
         };
-        let (group, position) = place(self.superframe);
-        let mut random = Random::stream(&[self.seed, FREE_BYTES, self.superframe]);
+        let (group, position) = place(self.number);
+        let mut random = Random::stream(&[self.seed, FREE_BYTES, self.number]);
         let mut six: [u8; 6] = std::array::from_fn(|_| free_byte(&mut random));
         for (c, byte) in six[..4].iter_mut().enumerate() {
             let channel = 4 * position + c;
@@ -122,7 +123,7 @@ impl Source {
                 self.labels[channel][group - SEPARATOR - 1]
             };
         }
-        let (_, next) = place(self.superframe + 1);
+        let (_, next) = place(self.number + 1);
         let sync = if next == 0 { SYNC_1 } else { SYNC_2 };
         [bits::of_bytes(&six), bits::of_text(sync)].concat()
     }
