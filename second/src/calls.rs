@@ -289,7 +289,11 @@ fn any(random: &mut Random) -> String {
         }
         29 => random_header(random),
         30 => {
-            let length = random.between(0, MOST_RUN);
+            let whole = superframe::BYTES as i64 * random.between(0, 4);
+            let length = match random.bit() {
+                0 => whole,
+                _ => random.between(0, MOST_RUN),
+            };
             match random.bit() {
                 0 => format!("run {length}"),
                 _ => format!("part {length} {}", random.below(6)),

@@ -30,9 +30,10 @@ pub const PHASE: usize = SEPARATOR * POSITIONS;
 /// The 128 main frames of a superframe, 320 bits each.
 pub type Frames = Vec<Vec<Bit>>;
 
-struct Sound {
-    samples: Vec<[i16; FRAMES]>,
-    factors: Vec<u8>,
+/// The samples of one superframe, channel by channel, and their factors.
+pub struct Sound {
+    pub samples: Vec<[i16; FRAMES]>,
+    pub factors: Vec<u8>,
 }
 
 /// Superframe after superframe.
@@ -130,7 +131,7 @@ impl Source {
 }
 
 /// Each channel silent or at one of eight loudnesses, half of the time with a sample at the very edge.
-fn sound(seed: u64, superframe: u64) -> Result<Sound, Refusal> {
+pub fn sound(seed: u64, superframe: u64) -> Result<Sound, Refusal> {
     let mut random = Random::stream(&[seed, SOUND, superframe]);
     let mut samples = vec![[0; FRAMES]; CHANNELS];
     for channel in &mut samples {
