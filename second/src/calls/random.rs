@@ -16,69 +16,96 @@ use crate::word::PROTECTED;
 /// `count` random lines.
 pub fn random(seed: u64, count: u64) -> impl Iterator<Item = String> {
     let mut random = Random::stream(&[seed, 201]);
-    (0..count).map(move |_| any(&mut random))
+    let hat = KINDS.map(|(times, kind)| vec![kind; times]).concat();
+    (0..count).map(move |_| random.one_of(&hat)(&mut random))
 }
 
-fn any(random: &mut Random) -> String {
-    match random.below(40) {
-        0..=2 => random_block_write(random),
-        3..=8 => random_block_read(random),
-        9..=10 => {
-            let block: Block = random.bits();
-            format!("bcodes {}", text::digits(&spoilt(block, random)))
-        }
-        11..=13 => random_frame_write(random),
-        14..=16 => random_frame_read(random),
-        17 => {
-            let (sample, factor) = (edged(random, 32768), factor(random));
-            format!("code {sample} {factor}")
-        }
-        18 => {
-            let (code, factor) = (edged(random, 8192), factor(random));
-            format!("sample {code} {factor}")
-        }
-        19 => {
-            let name = random.one_of(&["codes", "samples"]);
-            let start = edged(random, 32768);
-            let count = random.between(0, MOST_SWEPT.min(32768 - start) / 16);
-            format!("{name} {} {start} {count}", factor(random))
-        }
-        20..=21 => random_factor(random),
-        22 => format!("swrite {} {}", factor(random), factor(random)),
-        23..=24 => {
-            let copies: [Bit; COPIES] = random_copies(random);
-            format!("sread {}", text::digits(&spoilt(copies, random)))
-        }
-        25..=26 => {
-            let mut extra: [Bit; EXTRA] = random.bits();
-            extra[..COPIES].copy_from_slice(&random_copies(random));
-            format!("sextra {}", text::digits(&spoilt(extra, random)))
-        }
-        27 => format!("pread {}", random.byte()),
-        28 => {
-            let mut at_most = |most| {
-                if random.percent(90) {
-                    random.between(0, most)
-                } else {
-                    random.between(0, 255)
-                }
-            };
-            format!("pwrite {} {} {}", at_most(15), at_most(1), at_most(3))
-        }
-        29 => random_header(random),
-        30 => {
-            let whole = superframe::BYTES as i64 * random.between(0, 4);
-            let length = match random.bit() {
-                0 => whole,
-                _ => random.between(0, MOST_RUN),
-            };
-            match random.bit() {
-                0 => format!("run {length}"),
-                _ => format!("part {length} {}", random.below(6)),
-            }
-        }
-        31..=32 => format!("lose {}", state_text(&random_state(random))),
-        _ => random_service(random),
+type Kind = fn(&mut Random) -> String;
+
+/// How often each kind of line comes.
+const KINDS: [(usize, Kind); 17] = [
+    (3, block_write),
+    (6, block_read),
+    (2, block_codes),
+    (3, frame_write),
+    (3, frame_read),
+    (1, code),
+    (1, sample),
+    (1, sweep),
+    (2, factor_of_samples),
+    (1, scale_write),
+    (2, scale_read),
+    (2, extra_read),
+    (1, programme_read),
+    (1, programme_write),
+    (1, header),
+    (1, run),
+    (9, state_call),
+];
+
+fn block_codes(random: &mut Random) -> String {
+    let block: Block = random.bits();
+    format!("bcodes {}", text::digits(&spoilt(block, random)))
+}
+
+fn code(random: &mut Random) -> String {
+    format!("code {} {}", edged(random, 32768), factor(random))
+}
+
+fn sample(random: &mut Random) -> String {
+    format!("sample {} {}", edged(random, 8192), factor(random))
+}
+
+fn sweep(random: &mut Random) -> String {
+    let name = random.one_of(&["codes", "samples"]);
+    let start = edged(random, 32768);
+    let count = random.between(0, MOST_SWEPT.min(32768 - start) / 16);
+    format!("{name} {} {start} {count}", factor(random))
+}
+
+fn scale_write(random: &mut Random) -> String {
+    format!("swrite {} {}", factor(random), factor(random))
+}
+
+fn scale_read(random: &mut Random) -> String {
+    let copies = copies(random);
+    format!("sread {}", text::digits(&spoilt(copies, random)))
+}
+
+fn extra_read(random: &mut Random) -> String {
+    let mut extra: [Bit; EXTRA] = random.bits();
+    extra[..COPIES].copy_from_slice(&copies(random));
+    format!("sextra {}", text::digits(&spoilt(extra, random)))
+}
+
+fn programme_read(random: &mut Random) -> String {
+    format!("pread {}", random.byte())
+}
+
+fn programme_write(random: &mut Random) -> String {
+    let mut mostly_to = |most| match random.percent(90) {
+        true => random.between(0, most),
+        false => random.between(0, 255),
+    };
+    format!("pwrite {} {} {}", mostly_to(15), mostly_to(1), mostly_to(3))
+}
+
+fn run(random: &mut Random) -> String {
+    let whole = superframe::BYTES as i64 * random.between(0, 4);
+    let length = match random.bit() {
+        0 => whole,
+        _ => random.between(0, MOST_RUN),
+    };
+    match random.bit() {
+        0 => format!("run {length}"),
+        _ => format!("part {length} {}", random.below(6)),
+    }
+}
+
+fn state_call(random: &mut Random) -> String {
+    match random.percent(20) {
+        true => format!("lose {}", state_text(&random_state(random))),
+        false => random_service(random),
     }
 }
 
@@ -124,7 +151,7 @@ fn damaged(random: &mut Random) -> Block {
     block
 }
 
-fn random_block_write(random: &mut Random) -> String {
+fn block_write(random: &mut Random) -> String {
     let wild = random.percent(20);
     let codes: [i64; 4] = std::array::from_fn(|_| match wild {
         true => edged(random, 8192),
@@ -137,7 +164,7 @@ fn random_block_write(random: &mut Random) -> String {
     format!("bwrite {} {}", text::spaced(codes), text::spaced(extra))
 }
 
-fn random_block_read(random: &mut Random) -> String {
+fn block_read(random: &mut Random) -> String {
     let block = match random.percent(95) {
         true => damaged(random),
         false => random.bits(),
@@ -150,11 +177,11 @@ fn four(random: &mut Random) -> [Block; 4] {
     std::array::from_fn(|_| damaged(random))
 }
 
-fn random_letter(random: &mut Random) -> (Letter, char) {
+fn letter(random: &mut Random) -> (Letter, char) {
     random.one_of(&[(Letter::A, 'a'), (Letter::B, 'b')])
 }
 
-fn random_length(random: &mut Random, right: usize) -> usize {
+fn length_near(random: &mut Random, right: usize) -> usize {
     match random.below(10) {
         0 => random.one_of(&[0, 1, right - 1, right + 1, MOST_BYTES]),
         1 => random.index(MOST_BYTES + 1),
@@ -162,8 +189,8 @@ fn random_length(random: &mut Random, right: usize) -> usize {
     }
 }
 
-fn random_frame_write(random: &mut Random) -> String {
-    let (_, letter) = random_letter(random);
+fn frame_write(random: &mut Random) -> String {
+    let (_, letter) = letter(random);
     let service = match random.percent(95) {
         true => random.bit(),
         false => random.one_of(&[2, 255]),
@@ -174,16 +201,16 @@ fn random_frame_write(random: &mut Random) -> String {
         blocks[block] = spoilt(blocks[block], random);
     }
     let blocks = text::spaced(blocks.iter().map(|block| text::digits(block)));
-    let length = random_length(random, frame::BYTES);
+    let length = length_near(random, frame::BYTES);
     format!(
         "fwrite {letter} {service} {blocks} {length} {}",
         random.byte()
     )
 }
 
-fn random_frame_read(random: &mut Random) -> String {
-    let (letter, name) = random_letter(random);
-    let mut bits = frame::bits_of(letter, random.bit(), &four(random));
+fn frame_read(random: &mut Random) -> String {
+    let (sent, name) = letter(random);
+    let mut bits = frame::bits_of(sent, random.bit(), &four(random));
     match random.below(10) {
         0 => turn(&mut bits, random.places(1, frame::SYNC)),
         1 => {
@@ -196,11 +223,16 @@ fn random_frame_read(random: &mut Random) -> String {
         _ => {}
     }
     let mut bytes = bits::to_bytes(&bits);
-    bytes.resize(random_length(random, frame::BYTES), 0xe2);
+    bytes.resize(length_near(random, frame::BYTES), 0xe2);
+    // One time in twenty the other letter is asked for.
+    let name = match random.percent(90) {
+        true => name,
+        false => letter(random).1,
+    };
     format!("fread {name} {}", hex_or_dash(&bytes))
 }
 
-fn random_factor(random: &mut Random) -> String {
+fn factor_of_samples(random: &mut Random) -> String {
     let count = match random.below(10) {
         0 => random.one_of(&[0, 1, 63, 65, MOST_SAMPLES]),
         _ => 64,
@@ -219,7 +251,7 @@ fn random_factor(random: &mut Random) -> String {
 }
 
 /// Three copies of a scale word: with few wrong places, with one copy of noise, or noise altogether.
-fn random_copies(random: &mut Random) -> [Bit; COPIES] {
+fn copies(random: &mut Random) -> [Bit; COPIES] {
     let mut copies: [Bit; COPIES] = random.bits();
     let (_, word) = &scale::words()[random.index(64)];
     match random.below(5) {
@@ -250,14 +282,14 @@ fn random_copies(random: &mut Random) -> [Bit; COPIES] {
     copies
 }
 
-fn random_header(random: &mut Random) -> String {
+fn header(random: &mut Random) -> String {
     let mut field = |right: u32, percent| match random.percent(percent) {
         true => right,
         false => random.between(0, i64::from(u32::MAX)) as u32 >> random.below(32),
     };
     let fields = [field(1000, 20), field(16, 70), field(0, 90), field(0, 90)];
     let mut bytes = fields.map(u32::to_be_bytes).concat();
-    bytes.resize(random_length(random, reel::HEADER), 0);
+    bytes.resize(length_near(random, reel::HEADER), 0);
     format!("header {}", hex_or_dash(&bytes))
 }
 
