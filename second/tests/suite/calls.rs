@@ -255,6 +255,11 @@ fn checker_finds_every_wrong_answer() {
         verdict(&spoilt, None),
         (false, "300 lines, 300 wrong".to_string())
     );
+    let longer = text.replace('\n', " 0\n");
+    assert_eq!(
+        verdict(&longer, None),
+        (false, "300 lines, 300 wrong".to_string())
+    );
     // A line missing, one too many, another order, no line at all, no answer.
     let without_last = &text[..text.trim_end().rfind('\n').unwrap() + 1];
     assert!(verdict(without_last, None).0);
