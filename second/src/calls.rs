@@ -1,0 +1,70 @@
+//! Making call lines: those that can be gone through one by one, and random ones. README.md gives the grammar.
+
+mod random;
+mod systematic;
+
+use crate::answer::state_text;
+use crate::bits::Bit;
+use crate::block::{self, Block};
+use crate::random::Random;
+use crate::service::{Labels, Service, CHANNELS, CHARACTERS};
+use crate::superframe::State;
+use crate::text;
+pub use random::random;
+pub use systematic::all;
+
+/// A block as it is written, of random content.
+fn written(random: &mut Random) -> Block {
+    let noise: Block = random.bits();
+    let block = block::content(&noise).and_then(|content| block::write(&content));
+    // Bits make a content that can be written; were it not so, noise would do.
+    block.unwrap_or(noise)
+}
+
+fn turn(bits: &mut [Bit], places: Vec<usize>) {
+    for place in places {
+        bits[place] ^= 1;
+    }
+}
+
+/// A state at this position and stage; `zero` leaves the open group's bytes 0. Places that carry nothing
+/// hold 0 every second time; the last four of the group and the last of each label never carry anything.
+fn state(random: &mut Random, position: u8, stage: u8, zero: bool) -> State {
+    let factors = |random: &mut Random| std::array::from_fn(|_| random.below(9) as u8);
+    let tidy = random.percent(50);
+    let mut group = [0; CHANNELS];
+    let gathered = 4 * usize::from(position).saturating_sub(1);
+    for (n, byte) in group[..CHANNELS - 4].iter_mut().enumerate() {
+        if !zero && n < gathered || !tidy && n >= gathered {
+            *byte = random.byte();
+        }
+    }
+    let mut labels: Labels = [[0; CHARACTERS]; CHANNELS];
+    let gathered = usize::from(stage).saturating_sub(1);
+    for label in &mut labels {
+        for (n, character) in label[..CHARACTERS - 1].iter_mut().enumerate() {
+            if n < gathered || !tidy {
+                *character = random.byte();
+            }
+        }
+    }
+    State {
+        now: factors(random),
+        after: factors(random),
+        service: Service {
+            position,
+            stage,
+            group,
+            labels,
+        },
+    }
+}
+
+fn service(state: &State, six: &[u8; 6], sync: &[Bit]) -> String {
+    format!(
+        "service {} {} {}",
+        state_text(state),
+        text::hex(six),
+        text::digits(sync)
+    )
+}

@@ -1,0 +1,79 @@
+//! Scale words and the 64 extra bits of a programme (document 01, "Scale words").
+
+use crate::bits::{self, Bit};
+use crate::division;
+use crate::numbers::Refusal;
+use std::sync::OnceLock;
+
+pub const WORD: usize = 14;
+pub const COPIES: usize = 3 * WORD;
+pub const EXTRA: usize = 64;
+/// The bits of an information word.
+pub const INFORMATION: usize = EXTRA - COPIES;
+
+/// x^8 + x^7 + x^6 + x^4 + 1
+const POWERS: [usize; 5] = [8, 7, 6, 4, 0];
+
+/// The left and the right factor of one programme.
+pub type Factors = (u8, u8);
+
+/// Three bits of each factor, highest first, then eight check bits.
+pub fn write((left, right): Factors) -> Result<Vec<Bit>, Refusal> {
+    if left > 7 || right > 7 {
+        return Err(Refusal::Range);
+    }
+    let mut word = bits::of_number(u64::from(8 * left + right), 6);
+    let check = division::check_bits(&word, &division::generator(&POWERS));
+    word.extend(check);
+    Ok(word)
+}
+
+/// All 64 scale words with their factors.
+pub fn words() -> &'static [(Factors, Vec<Bit>)] {
+    static WORDS: OnceLock<Vec<(Factors, Vec<Bit>)>> = OnceLock::new();
+    WORDS.get_or_init(|| {
+        let all = (0..64).map(|n| (n / 8, n % 8));
+        all.filter_map(|factors| Some((factors, write(factors).ok()?)))
+            .collect()
+    })
+}
+
+fn majority(copies: &[Bit]) -> Vec<Bit> {
+    let ones = |place| copies[place] + copies[place + WORD] + copies[place + 2 * WORD];
+    (0..WORD).map(|place| Bit::from(ones(place) >= 2)).collect()
+}
+
+/// The factors of 42 bits, three copies: of the 64 scale words the one at most two places from the majority.
+/// There is at most one, since scale words differ in at least 5 places.
+pub fn read(copies: &[Bit; COPIES]) -> Result<Factors, Refusal> {
+    if !bits::all_in_range(copies) {
+        return Err(Refusal::Range);
+    }
+    let majority = majority(copies);
+    let near = |(_, word): &&(Factors, Vec<Bit>)| bits::distance(word, &majority) <= 2;
+    match words().iter().find(near) {
+        Some((factors, _)) => Ok(*factors),
+        None => Err(Refusal::ScaleWord),
+    }
+}
+
+/// What the extra bits of one programme over 64 main frames say. The information word comes
+/// whether or not a scale word could be read; its first bit is the highest.
+#[derive(Clone, Copy, Debug, PartialEq, Eq)]
+pub struct Extra {
+    /// None for number 5.
+    pub factors: Option<Factors>,
+    pub information: u32,
+}
+
+pub fn read_extra(extra: &[Bit; EXTRA]) -> Result<Extra, Refusal> {
+    if !bits::all_in_range(extra) {
+        return Err(Refusal::Range);
+    }
+    let mut copies = [0; COPIES];
+    copies.copy_from_slice(&extra[..COPIES]);
+    Ok(Extra {
+        factors: read(&copies).ok(),
+        information: bits::to_number(&extra[COPIES..]) as u32,
+    })
+}

@@ -1,0 +1,207 @@
+//! The superframe and the reader's state (document 01, "Superframe").
+
+use crate::bits::{self, Bit};
+use crate::block::{self, Block};
+use crate::frame::{self, Letter};
+use crate::numbers::Refusal;
+use crate::sample;
+use crate::scale::{self, Extra};
+use crate::service::{Heard, Service, CHANNELS};
+use crate::word::Reading;
+
+pub const FRAMES: usize = 64;
+pub const PROGRAMMES: usize = 16;
+pub const BYTES: usize = 2 * FRAMES * frame::BYTES;
+/// In place of a factor.
+pub const MISSING: u8 = 8;
+
+/// The marks: 0 clean, 1 mended, 2 block bad, 3 no factor.
+const NO_FACTOR: u8 = 3;
+
+/// The letter of main frame 1 to 128: 64 of A, then 64 of B.
+pub fn letter(frame: usize) -> Letter {
+    if frame <= FRAMES {
+        Letter::A
+    } else {
+        Letter::B
+    }
+}
+
+#[derive(Clone, Debug, PartialEq, Eq)]
+pub struct State {
+    /// The factors for the next superframe, channel by channel.
+    pub now: [u8; CHANNELS],
+    /// And for the one after it.
+    pub after: [u8; CHANNELS],
+    pub service: Service,
+}
+
+#[derive(Clone, Copy, Debug, Default, PartialEq, Eq)]
+pub struct Counts {
+    pub clean: u64,
+    pub mended: u64,
+    pub bad: u64,
+}
+
+/// What a superframe that wasn't lost hands on. Samples and marks are frame by frame,
+/// channels of programmes 1 to 16 in order, left first.
+#[derive(Clone, Debug, PartialEq, Eq)]
+pub struct Taken {
+    pub samples: Vec<[i16; CHANNELS]>,
+    pub marks: Vec<[u8; CHANNELS]>,
+    pub counts: Counts,
+    pub extra: Vec<Extra>,
+    pub six: [u8; 6],
+    pub heard: Heard,
+}
+
+impl State {
+    pub fn fresh() -> State {
+        State {
+            now: [MISSING; CHANNELS],
+            after: [MISSING; CHANNELS],
+            service: Service::searching(),
+        }
+    }
+
+    fn in_range(&self) -> bool {
+        let factors = self.now.iter().chain(&self.after);
+        factors.into_iter().all(|factor| *factor <= MISSING) && self.service.in_range()
+    }
+
+    /// The state after one lost superframe.
+    pub fn lose(&self) -> Result<State, Refusal> {
+        if !self.in_range() {
+            return Err(Refusal::Range);
+        }
+        Ok(State {
+            now: self.after,
+            after: [MISSING; CHANNELS],
+            service: Service::searching(),
+        })
+    }
+
+    /// The service bits of one superframe by themselves; the factors stay as given.
+    pub fn take_service(&self, six: &[u8; 6], sync: &[Bit]) -> Result<(Heard, State), Refusal> {
+        if !self.in_range() || !bits::all_in_range(sync) {
+            return Err(Refusal::Range);
+        }
+        let (heard, service) = self.service.take(six, sync);
+        let state = State {
+            service,
+            ..self.clone()
+        };
+        Ok((heard, state))
+    }
+
+    /// One superframe: what it hands on or the number, and the next state beside either.
+    pub fn take(&self, bytes: &[u8]) -> (Result<Taken, Refusal>, State) {
+        if bytes.len() != BYTES {
+            return (Err(Refusal::Length), self.clone());
+        }
+        let lost = match self.lose() {
+            Ok(state) => state,
+            Err(refusal) => return (Err(refusal), self.clone()),
+        };
+        match Received::read(bytes).and_then(|received| self.hear(&received)) {
+            Ok((taken, state)) => (Ok(taken), state),
+            Err(refusal) => (Err(refusal), lost),
+        }
+    }
+
+    fn hear(&self, received: &Received) -> Result<(Taken, State), Refusal> {
+        let mut samples = vec![[0; CHANNELS]; FRAMES];
+        let mut marks = vec![[NO_FACTOR; CHANNELS]; FRAMES];
+        let mut counts = Counts::default();
+        let mut extra = vec![[0; scale::EXTRA]; PROGRAMMES];
+        for (f, blocks) in received.blocks.iter().enumerate() {
+            for (b, block) in blocks.iter().enumerate() {
+                let (reading, block) = block::read(block)?;
+                let mark = match reading {
+                    Reading::Clean => {
+                        counts.clean += 1;
+                        0
+                    }
+                    Reading::Mended(_) => {
+                        counts.mended += 1;
+                        1
+                    }
+                    Reading::Bad => {
+                        counts.bad += 1;
+                        2
+                    }
+                };
+                let content = block::content(&block)?;
+                // Of the eight blocks, the b-th carries programmes 2b-1 and 2b, channels 4b-3 to 4b.
+                for (c, code) in content.codes.iter().enumerate() {
+                    let channel = 4 * b + c;
+                    if self.now[channel] != MISSING {
+                        samples[f][channel] = sample::sample_of(*code, self.now[channel])? as i16;
+                        marks[f][channel] = mark;
+                    }
+                }
+                extra[2 * b][f] = content.extra[0];
+                extra[2 * b + 1][f] = content.extra[1];
+            }
+        }
+        let extra: Vec<Extra> = extra
+            .iter()
+            .map(scale::read_extra)
+            .collect::<Result<_, _>>()?;
+        let (heard, service) = self.service.take(&received.six, &received.sync);
+        // The factors read here hold for the superframe after the next.
+        let mut read = [MISSING; CHANNELS];
+        for (programme, extra) in extra.iter().enumerate() {
+            if let Some((left, right)) = extra.factors {
+                read[2 * programme] = left;
+                read[2 * programme + 1] = right;
+            }
+        }
+        let state = State {
+            now: self.after,
+            after: read,
+            service,
+        };
+        let taken = Taken {
+            samples,
+            marks,
+            counts,
+            extra,
+            six: received.six,
+            heard,
+        };
+        Ok((taken, state))
+    }
+}
+
+/// The bits of a superframe sorted, before any is mended.
+struct Received {
+    /// For each of 64 frames the four blocks of A and the four of B.
+    blocks: Vec<[Block; 8]>,
+    six: [u8; 6],
+    sync: Vec<Bit>,
+}
+
+impl Received {
+    /// Wrong length and wrong sync are refused; all 128 syncs have to be right.
+    fn read(bytes: &[u8]) -> Result<Received, Refusal> {
+        let mut blocks = vec![[[0; block::LENGTH]; 8]; FRAMES];
+        let mut service = Vec::with_capacity(FRAMES);
+        for (n, bytes) in bytes.chunks(frame::BYTES).enumerate() {
+            let letter = letter(n + 1);
+            let (bit, four) = frame::read(letter, bytes)?;
+            match letter {
+                Letter::A => {
+                    service.push(bit);
+                    blocks[n][..4].copy_from_slice(&four);
+                }
+                Letter::B => blocks[n - FRAMES][4..].copy_from_slice(&four),
+            }
+        }
+        // Service bits 1 to 48 are six bytes, 49 to 64 the sync of the following service frame.
+        let sync = service.split_off(48);
+        let mut six = [0; 6];
+        six.copy_from_slice(&bits::to_bytes(&service));
+        Ok(Received { blocks, six, sync })
+    }
+}

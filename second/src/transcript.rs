@@ -1,0 +1,62 @@
+//! The transcript: every answer of the reader for each superframe of a reel.
+
+use crate::reel::{self, End};
+use crate::scale::Extra;
+use crate::service::Sync;
+use crate::superframe::{State, Taken};
+use crate::text;
+use std::io::{self, Read, Write};
+
+pub fn write(input: impl Read, output: &mut impl Write) -> io::Result<()> {
+    let mut state = State::fresh();
+    let mut superframe = 0;
+    let end = reel::walk(input, |bytes| {
+        let (answer, next) = state.take(bytes);
+        state = next;
+        superframe += 1;
+        match answer {
+            Ok(taken) => {
+                writeln!(output, "superframe {superframe} number 0")?;
+                write_taken(&taken, output)
+            }
+            Err(refusal) => {
+                let number = refusal.number();
+                writeln!(output, "superframe {superframe} number {number}")
+            }
+        }
+    })?;
+    match end {
+        End::Ok => writeln!(output, "end ok"),
+        End::Short => writeln!(output, "end short"),
+        End::Refused => writeln!(output, "refused 8"),
+    }
+}
+
+fn write_taken(taken: &Taken, output: &mut impl Write) -> io::Result<()> {
+    let heard = &taken.heard;
+    let number = if heard.sync == Sync::Neither { 7 } else { 0 };
+    let six = text::hex(&taken.six);
+    writeln!(output, "service {} {number} {six}", heard.position)?;
+    let labels = match &heard.labels {
+        None => "none".to_string(),
+        Some(labels) => text::spaced(labels.iter().map(|label| text::hex(label))),
+    };
+    writeln!(output, "labels {labels}")?;
+    let factors = |extra: &Extra| match extra.factors {
+        None => "--".to_string(),
+        Some((left, right)) => format!("{left}{right}"),
+    };
+    let factors = text::spaced(taken.extra.iter().map(factors));
+    writeln!(output, "factors {factors}")?;
+    let word = |extra: &Extra| format!("{:06x}", extra.information);
+    let words = text::spaced(taken.extra.iter().map(word));
+    writeln!(output, "words {words}")?;
+    let counts = &taken.counts;
+    let (clean, mended, bad) = (counts.clean, counts.mended, counts.bad);
+    writeln!(output, "blocks {clean} {mended} {bad}")?;
+    for (f, (marks, samples)) in taken.marks.iter().zip(&taken.samples).enumerate() {
+        writeln!(output, "marks {} {}", f + 1, text::digits(marks))?;
+        writeln!(output, "samples {} {}", f + 1, text::spaced(samples))?;
+    }
+    Ok(())
+}

@@ -1,0 +1,271 @@
+//! Call lines, answers, and the checker.
+
+use second::answer::answer;
+use second::calls;
+use second::check::{answer_all, check};
+use std::collections::HashMap;
+
+/// Answers worked out from document 01 by hand.
+#[test]
+fn answers() {
+    let zeros = |count| "0".repeat(count);
+    let bit_44 = format!("{}10001000011101010001{}", zeros(43), zeros(14));
+    let cleared = format!("{}00000000011101010001{}", zeros(43), zeros(14));
+    let z77 = zeros(77);
+    let fresh = format!(
+        "{} {} 00 00 {} {}",
+        "08".repeat(32),
+        "08".repeat(32),
+        zeros(64),
+        zeros(512)
+    );
+    let wrong = fresh.replacen("08", "09", 1);
+    let opened = fresh.replacen(" 00 00 ", " 01 00 ", 1);
+    let last = fresh.replacen(" 00 00 ", " 08 08 ", 1);
+    // Channels 29 to 32 have 1, 2, 3, 4 as their last character.
+    let label = |channel: u8| format!("{}{:02x}", zeros(14), channel.saturating_sub(28));
+    let labels: String = (1..=32).map(label).collect();
+    let cases = [
+        ("bwrite 0 0 0 8 0 0".to_string(), format!("0 {bit_44}")),
+        ("bwrite 0 0 0 8192 0 0".to_string(), "2".to_string()),
+        ("bwrite 0 0 0 0 2 0".to_string(), "2".to_string()),
+        (format!("bread {bit_44}"), format!("0 0 {bit_44}")),
+        (format!("bread {cleared}"), format!("0 2 {bit_44}")),
+        (
+            format!("bread 111{}", zeros(74)),
+            format!("0 3 111{}", zeros(74)),
+        ),
+        (format!("bread 2{}", zeros(76)), "2".to_string()),
+        (
+            format!("bcodes 1{}1", zeros(75)),
+            "0 -8192 0 0 0 0 1".to_string(),
+        ),
+        (
+            format!("fwrite a 1 {z77} {z77} {z77} {z77} 40 255"),
+            format!("0 e25{}", zeros(77)),
+        ),
+        (
+            format!("fwrite b 1 {z77} {z77} {z77} {z77} 40 255"),
+            format!("0 1da{}", zeros(77)),
+        ),
+        (
+            format!("fwrite b 2 {z77} {z77} {z77} {z77} 2 165"),
+            "1 a5a5".to_string(),
+        ),
+        (
+            format!("fwrite b 2 {z77} {z77} {z77} {z77} 0 165"),
+            "1 -".to_string(),
+        ),
+        (
+            format!("fwrite a 2 {z77} {z77} {z77} {z77} 40 1"),
+            format!("2 {}", "01".repeat(40)),
+        ),
+        (
+            format!("fread a e25{}", zeros(77)),
+            format!("0 1 {z77} {z77} {z77} {z77}"),
+        ),
+        (
+            format!("fread b 1db{}", zeros(77)),
+            format!("0 0 {z77} {z77} {z77} {z77}"),
+        ),
+        (format!("fread b e25{}", zeros(77)), "3".to_string()),
+        ("fread a e25000".to_string(), "1".to_string()),
+        ("fread a -".to_string(), "1".to_string()),
+        ("code -256 7".to_string(), "0 -8192".to_string()),
+        ("code 256 7".to_string(), "2".to_string()),
+        ("sample -1 0".to_string(), "0 -4".to_string()),
+        ("sample -1 8".to_string(), "2".to_string()),
+        // -1 gives -1, 0 gives 0: 32767 * 31 + 32768.
+        ("codes 0 -1 2".to_string(), "0 1048545".to_string()),
+        ("codes 8 -1 1".to_string(), "0 65538".to_string()),
+        (
+            "samples 7 8191 2".to_string(),
+            format!("0 {}", (255 + 32768) * 31 + 65538),
+        ),
+        ("samples 7 0 0".to_string(), "0 0".to_string()),
+        (format!("factor -257{}", " 0".repeat(63)), "0 6".to_string()),
+        ("factor 0".to_string(), "1".to_string()),
+        ("factor -".to_string(), "1".to_string()),
+        ("swrite 0 1".to_string(), "0 00000111010001".to_string()),
+        ("swrite 0 8".to_string(), "2".to_string()),
+        (
+            format!("sread {}", "00001001110011".repeat(3)),
+            "0 0 2".to_string(),
+        ),
+        (format!("sread {}", "1".repeat(42)), "5".to_string()),
+        (format!("sread {}7", zeros(41)), "2".to_string()),
+        (format!("sextra {}1", zeros(63)), "0 0 0 1".to_string()),
+        (
+            format!("sextra {}", "1".repeat(64)),
+            "5 4194303".to_string(),
+        ),
+        (format!("sextra {}3", zeros(63)), "2".to_string()),
+        ("pread 170".to_string(), "0 10 1 1".to_string()),
+        ("pread 171".to_string(), "6".to_string()),
+        ("pwrite 10 1 1".to_string(), "0 170".to_string()),
+        ("pwrite 10 1 4".to_string(), "2".to_string()),
+        ("name 4".to_string(), "0 53504f5254202020".to_string()),
+        ("name 16".to_string(), "2".to_string()),
+        (
+            "header 00000002000000100000000000000000".to_string(),
+            "0 2 16".to_string(),
+        ),
+        (
+            "header 000000020000000f0000000000000000".to_string(),
+            "8".to_string(),
+        ),
+        ("header -".to_string(), "8".to_string()),
+        ("run 0".to_string(), "0 0".to_string()),
+        ("run 20480".to_string(), "0 4".to_string()),
+        ("run 5119".to_string(), "1".to_string()),
+        ("part 10240 2".to_string(), "0 5120 5120".to_string()),
+        ("part 10240 1".to_string(), "0 5120 0".to_string()),
+        ("part 10240 3".to_string(), "2 0".to_string()),
+        ("part 10241 0".to_string(), "1 0".to_string()),
+        ("fresh".to_string(), format!("0 {fresh}")),
+        (format!("lose {last}"), format!("0 {fresh}")),
+        (format!("lose {wrong}"), format!("2 {wrong}")),
+        (
+            format!("service {fresh} 010203040506 0000010111001111"),
+            format!("0 0 0 - {opened}"),
+        ),
+        (
+            format!("service {fresh} 010203040506 0000010111001110"),
+            format!("0 0 7 - {fresh}"),
+        ),
+        (
+            format!("service {last} 010203040506 0000010111001111"),
+            format!("0 8 0 {labels} {opened}"),
+        ),
+        (
+            format!("service {wrong} 010203040506 0000010111001111"),
+            format!("2 {wrong}"),
+        ),
+    ];
+    for (call, expected) in cases {
+        assert_eq!(answer(&call), Some(expected), "{call}");
+    }
+}
+
+fn answered(lines: impl Iterator<Item = String>) -> String {
+    let calls: String = lines.map(|line| line + "\n").collect();
+    let mut text = Vec::new();
+    answer_all(calls.as_bytes(), &mut text).unwrap();
+    String::from_utf8(text).unwrap()
+}
+
+fn verdict(text: &str, calls: Option<&mut dyn Iterator<Item = String>>) -> (bool, String) {
+    let mut said = Vec::new();
+    let right = check(text.as_bytes(), calls, &mut said).unwrap();
+    let said = String::from_utf8(said).unwrap();
+    (right, said.lines().last().unwrap_or("").to_string())
+}
+
+/// Every function is called, accepted and refused, with lines no longer than the README says.
+#[test]
+fn lines_cover_the_surface() {
+    let text = answered(calls::all()) + &answered(calls::random(1, 5000));
+    let mut numbers: HashMap<&str, Vec<&str>> = HashMap::new();
+    for line in text.lines() {
+        let (call, answer) = line.split_once(" = ").unwrap();
+        assert!(call.len() <= 751 && line.len() <= 1986);
+        let name = call.split(' ').next().unwrap();
+        let number = answer.split(' ').next().unwrap();
+        let seen = numbers.entry(name).or_default();
+        if !seen.contains(&number) {
+            seen.push(number);
+        }
+    }
+    for (name, expected) in [
+        ("bwrite", "02"),
+        ("bread", "02"),
+        ("bcodes", "02"),
+        ("fwrite", "012"),
+        ("fread", "013"),
+        ("code", "02"),
+        ("sample", "02"),
+        ("codes", "0"),
+        ("samples", "0"),
+        ("factor", "01"),
+        ("swrite", "02"),
+        ("sread", "025"),
+        ("sextra", "025"),
+        ("pread", "06"),
+        ("pwrite", "02"),
+        ("name", "02"),
+        ("header", "08"),
+        ("run", "01"),
+        ("part", "012"),
+        ("fresh", "0"),
+        ("lose", "02"),
+        ("service", "02"),
+    ] {
+        for number in expected.chars() {
+            let seen = &numbers[name];
+            assert!(
+                seen.contains(&number.to_string().as_str()),
+                "{name} never gave {number}"
+            );
+        }
+    }
+}
+
+#[test]
+fn unreadable_lines() {
+    for line in [
+        "",
+        " ",
+        "x",
+        "pread",
+        "pread  1",
+        "pread 1 ",
+        "pread 1 1",
+        "pread +1",
+        "pread 1.0",
+        "fresh\r",
+    ] {
+        assert_eq!(answer(line), None, "'{line}'");
+    }
+    assert_eq!(
+        answered(["".to_string(), "x y".to_string()].into_iter()),
+        " = ?\nx y = ?\n"
+    );
+    let mut text = Vec::new();
+    answer_all(&b"\xff\xfe\npread 3"[..], &mut text).unwrap();
+    assert_eq!(text, b"\xff\xfe = ?\npread 3 = 0 0 0 1\n");
+}
+
+#[test]
+fn checker_finds_every_wrong_answer() {
+    let text = answered(calls::random(7, 300));
+    assert_eq!(
+        verdict(&text, None),
+        (true, "300 lines, 0 wrong".to_string())
+    );
+    assert!(verdict(&text, Some(&mut calls::random(7, 300))).0);
+    // The last letter of each answer turned into another.
+    let spoilt: String = text
+        .lines()
+        .map(|line| {
+            let (rest, last) = line.split_at(line.len() - 1);
+            format!("{rest}{}\n", if last == "0" { "1" } else { "0" })
+        })
+        .collect();
+    assert_eq!(
+        verdict(&spoilt, None),
+        (false, "300 lines, 300 wrong".to_string())
+    );
+    let longer = text.replace('\n', " 0\n");
+    assert_eq!(
+        verdict(&longer, None),
+        (false, "300 lines, 300 wrong".to_string())
+    );
+    // A line missing, one too many, another order, no line at all, no answer.
+    let without_last = &text[..text.trim_end().rfind('\n').unwrap() + 1];
+    assert!(verdict(without_last, None).0);
+    assert!(!verdict(without_last, Some(&mut calls::random(7, 300))).0);
+    assert!(!verdict(&text, Some(&mut calls::random(7, 299))).0);
+    assert!(!verdict(&text, Some(&mut calls::random(8, 300))).0);
+    assert!(!verdict("", None).0);
+    assert!(!verdict("fresh\n", None).0);
+}

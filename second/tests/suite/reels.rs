@@ -1,0 +1,404 @@
+//! Reel files, the listing, the transcript, and the reels that are made.
+
+use crate::hand::{header, listing, make, reel, transcript, Superframe, NEITHER};
+use second::make::Order;
+use second::numbers::Refusal;
+use second::reel::{read_header, run_count, start_of, Header};
+use std::io::{self, Read};
+
+/// The listing of a reel whose superframes are all clean.
+fn all_clean(superframes: u64, lost: u64, end: &str) -> String {
+    let clean = 512 * (superframes - lost);
+    format!("superframes {superframes}\nlost {lost}\nclean {clean}\nmended 0\nbad 0\nend {end}\n")
+}
+
+/// Document 01's own case, with a wrong bit at every place of some syncs of the second.
+#[test]
+fn listing_of_document_01() {
+    let expected = "superframes 2\nlost 1\nclean 512\nmended 0\nbad 0\nend ok\n";
+    let good = Superframe::zero().bytes();
+    for bit in 0..11 {
+        for frame in [0, 63, 64, 127] {
+            let mut wrong = good.clone();
+            wrong[40 * frame + bit / 8] ^= 0x80 >> (bit % 8);
+            assert_eq!(listing(&reel(&[good.clone(), wrong])), expected);
+        }
+    }
+    assert_eq!(listing(&make("1 2 sync=1@2")), expected);
+}
+
+#[test]
+fn headers() {
+    let good = |count, first| {
+        assert_eq!(
+            read_header(&header([count, first, 0, 0])),
+            Ok(Header { count, first })
+        )
+    };
+    good(0, 16);
+    good(1_000_000, 16);
+    good(258, 17);
+    good(1, u32::MAX);
+    for fields in [
+        [1_000_001, 16, 0, 0],
+        [u32::MAX, 16, 0, 0],
+        [1, 15, 0, 0],
+        [1, 0, 0, 0],
+        [1, 16, 1, 0],
+        [1, 16, 0, 1],
+        [1, 16, 5136, 1],
+        [0, 0, 0, 0],
+    ] {
+        assert_eq!(
+            read_header(&header(fields)),
+            Err(Refusal::Header),
+            "{fields:?}"
+        );
+        assert_eq!(listing(&header(fields)), "refused 8\n");
+        assert_eq!(transcript(&header(fields)), "refused 8\n");
+    }
+    let whole = header([3, 16, 0, 0]);
+    for length in 0..16 {
+        assert_eq!(read_header(&whole[..length]), Err(Refusal::Header));
+        assert_eq!(listing(&whole[..length]), "refused 8\n");
+    }
+    let longer = [whole, vec![255; 9]].concat();
+    assert_eq!(
+        read_header(&longer),
+        Ok(Header {
+            count: 3,
+            first: 16
+        })
+    );
+}
+
+#[test]
+fn runs() {
+    let most = 5_120_000_000;
+    for (length, count) in [
+        (0, Ok(0)),
+        (5120, Ok(1)),
+        (10_240, Ok(2)),
+        (most, Ok(1_000_000)),
+    ] {
+        assert_eq!(run_count(length), count);
+    }
+    for length in [
+        1,
+        5119,
+        5121,
+        7680,
+        most - 1,
+        most + 1,
+        most + 5120,
+        u64::MAX,
+    ] {
+        assert_eq!(run_count(length), Err(Refusal::Length));
+        assert_eq!(start_of(length, 0), Err(Refusal::Length));
+    }
+    assert_eq!(start_of(10_240, 1), Ok(0));
+    assert_eq!(start_of(10_240, 2), Ok(5120));
+    assert_eq!(start_of(most, 1_000_000), Ok(most - 5120));
+    for (length, k) in [(0, 0), (0, 1), (10_240, 0), (10_240, 3), (10_240, u64::MAX)] {
+        assert_eq!(start_of(length, k), Err(Refusal::Range));
+    }
+}
+
+/// Cut anywhere: whole superframes are counted, and the end is short until the last byte is there.
+#[test]
+fn cut_ends() {
+    for (gap, first) in [("", 16), (" gap=7", 23)] {
+        let whole = make(&format!("2 2{gap}"));
+        assert_eq!(whole.len(), first + 10_240);
+        for (length, superframes) in [
+            (16, 0),
+            (first - 1, 0),
+            (first, 0),
+            (first + 1, 0),
+            (first + 5119, 0),
+            (first + 5120, 1),
+            (first + 5121, 1),
+            (first + 10_239, 1),
+        ] {
+            if length >= 16 {
+                assert_eq!(
+                    listing(&whole[..length]),
+                    all_clean(superframes, 0, "short")
+                );
+            }
+        }
+        assert_eq!(listing(&whole), all_clean(2, 0, "ok"));
+        assert_eq!(make(&format!("2 2{gap} cut=5000")), whole[..5000]);
+        assert_eq!(make(&format!("2 2{gap} short=3")), whole[..whole.len() - 3]);
+    }
+}
+
+/// Bytes behind the end and before the first superframe are not looked at; a count of 0 ends at once.
+#[test]
+fn around_the_superframes() {
+    let good = make("2 2");
+    assert_eq!(listing(&make("2 2 tail=6000")), all_clean(2, 0, "ok"));
+    assert_eq!(listing(&make("2 2 gap=5120")), all_clean(2, 0, "ok"));
+    assert_eq!(listing(&make("2 2 count=1")), all_clean(1, 0, "ok"));
+    assert_eq!(
+        listing(&make("2 2 count=1000000")),
+        all_clean(2, 0, "short")
+    );
+    assert_eq!(listing(&make("2 2 count=0")), all_clean(0, 0, "ok"));
+    assert_eq!(
+        listing(&make("2 0 first=4294967295")),
+        all_clean(0, 0, "ok")
+    );
+    assert_eq!(
+        listing(&make("2 2 first=4294967295")),
+        all_clean(0, 0, "short")
+    );
+    // The first superframe taken for a gap.
+    assert_eq!(
+        listing(&make("2 2 first=5136 count=1")),
+        all_clean(1, 0, "ok")
+    );
+    // The superframes start one byte late.
+    assert_eq!(
+        listing(&make("2 3 first=17 count=2")),
+        all_clean(2, 2, "ok")
+    );
+    for fault in [
+        "count=1000001",
+        "first=15",
+        "summary=1",
+        "entries=1",
+        "cut=15",
+        "headless",
+    ] {
+        assert_eq!(
+            listing(&make(&format!("2 2 {fault}"))),
+            "refused 8\n",
+            "{fault}"
+        );
+    }
+    assert_eq!(make("2 2 headless"), good[16..]);
+    assert_eq!(transcript(&good), transcript(&make("2 2 gap=100 tail=100")));
+}
+
+/// A pipe may hand over a byte at a time.
+#[test]
+fn short_reads() {
+    struct Drip<'a>(&'a [u8]);
+    impl Read for Drip<'_> {
+        fn read(&mut self, buffer: &mut [u8]) -> io::Result<usize> {
+            let count = buffer.len().min(1);
+            self.0.read(&mut buffer[..count])
+        }
+    }
+    let reel = make("3 2 gap=3 tail=1");
+    let mut text = Vec::new();
+    second::listing::list(Drip(&reel), &mut text).unwrap();
+    assert_eq!(String::from_utf8(text).unwrap(), all_clean(2, 0, "ok"));
+}
+
+/// The transcript letter by letter, of three superframes made by hand.
+#[test]
+fn transcript_by_hand() {
+    let scaled = |word| Superframe::zero().scale(1, word, "0000000000001111010111");
+    let mut first = scaled("00001001110011");
+    first.six = [1, 2, 3, 4, 5, 0xfe];
+    let mut lost = Superframe::zero().bytes();
+    lost[5080] ^= 1;
+    let mut third = scaled("11111111111111").code(0, 2, -1).code(63, 31, 8191);
+    third.blocks[1][0][7] ^= 1;
+    third.sync = NEITHER;
+    let reel = reel(&[first.bytes(), lost, third.bytes()]);
+
+    let zeros = |count| vec!["0"; count].join(" ");
+    let mut expected = vec!["superframe 1 number 0".to_string()];
+    let factors = |second: &str| format!("factors 00 {second}{}", " 00".repeat(14));
+    let words = format!("words 000000 0003d7{}", " 000000".repeat(14));
+    expected.push("service 0 0 0102030405fe".to_string());
+    expected.push("labels none".to_string());
+    expected.push(factors("02"));
+    expected.push(words.clone());
+    expected.push("blocks 512 0 0".to_string());
+    for frame in 1..=64 {
+        expected.push(format!("marks {frame} {}", "3".repeat(32)));
+        expected.push(format!("samples {frame} {}", zeros(32)));
+    }
+    expected.push("superframe 2 number 3".to_string());
+    expected.push("superframe 3 number 0".to_string());
+    expected.push("service 0 7 000000000000".to_string());
+    expected.push("labels none".to_string());
+    expected.push(factors("--"));
+    expected.push(words);
+    expected.push("blocks 511 1 0".to_string());
+    for frame in 1..=64 {
+        let mark = if frame == 2 { "1111" } else { "0000" };
+        expected.push(format!("marks {frame} {mark}{}", "0".repeat(28)));
+        expected.push(match frame {
+            1 => format!("samples 1 0 0 -4 {}", zeros(29)),
+            64 => format!("samples 64 {} 32764", zeros(31)),
+            _ => format!("samples {frame} {}", zeros(32)),
+        });
+    }
+    expected.push("end ok".to_string());
+    let text = transcript(&reel);
+    for (line, expected) in text.lines().zip(&expected) {
+        assert_eq!(line, expected);
+    }
+    assert_eq!(text, expected.join("\n") + "\n");
+    let cut = transcript(&reel[..reel.len() - 1]);
+    let lost = expected
+        .iter()
+        .position(|line| line == "superframe 2 number 3")
+        .unwrap();
+    assert_eq!(cut, expected[..=lost].join("\n") + "\nend short\n");
+}
+
+/// The lines of a transcript that start with a word.
+fn lines<'a>(text: &'a str, word: &'a str) -> Vec<&'a str> {
+    text.lines().filter(|line| line.starts_with(word)).collect()
+}
+
+/// A good reel of 73 superframes brings the labels in the last of them.
+#[test]
+fn labels_of_a_made_reel() {
+    let text = transcript(&make("8 74"));
+    let labels = lines(&text, "labels");
+    for (n, line) in labels.iter().enumerate() {
+        let words = line.split(' ').count();
+        assert_eq!(words, if n + 1 == 73 { 33 } else { 2 });
+    }
+    let positions: Vec<String> = lines(&text, "service")
+        .iter()
+        .map(|line| line[..11].to_string())
+        .collect();
+    for (n, line) in positions.iter().enumerate() {
+        let position = if n == 0 { 0 } else { (n - 1) % 8 + 1 };
+        assert_eq!(*line, format!("service {position} 0"));
+    }
+    // A zero in place of a character is handed on; a Sync 1 in the middle drops all.
+    let zero = transcript(&make("8 74 zero@18-25"));
+    let label = |text: &str| {
+        lines(text, "labels")[72]
+            .split(' ')
+            .nth(32)
+            .unwrap_or("")
+            .to_string()
+    };
+    assert_eq!(label(&zero)[..2], label(&text)[..2]);
+    assert_eq!(&label(&zero)[2..4], "00");
+    assert_eq!(label(&zero)[4..], label(&text)[4..]);
+    for damage in [
+        "sync1@40",
+        "sync2@41",
+        "service=1@40",
+        "sync=1@40",
+        "swap@40",
+        "alternate@40",
+    ] {
+        let text = transcript(&make(&format!("8 74 {damage}")));
+        assert!(
+            lines(&text, "labels")
+                .iter()
+                .all(|line| *line == "labels none"),
+            "{damage}"
+        );
+    }
+}
+
+fn counts_of(words: &str) -> [u64; 5] {
+    let text = listing(&make(words));
+    let numbers: Vec<u64> = text
+        .lines()
+        .filter_map(|line| line.split(' ').nth(1)?.parse().ok())
+        .collect();
+    numbers.try_into().unwrap()
+}
+
+/// Each word of damage does what it says.
+#[test]
+fn damage() {
+    assert_eq!(counts_of("4 2"), [2, 0, 1024, 0, 0]);
+    assert_eq!(counts_of("4 2 places=1"), [2, 0, 0, 1024, 0]);
+    assert_eq!(counts_of("4 2 places=2"), [2, 0, 0, 1024, 0]);
+    assert_eq!(counts_of("4 2 places=3@2"), [2, 0, 512, 0, 512]);
+    assert_eq!(counts_of("4 3 places=5@2-3"), [3, 0, 512, 0, 1024]);
+    assert_eq!(counts_of("4 2 low=12"), [2, 0, 1024, 0, 0]);
+    assert_eq!(counts_of("4 2 burst=4")[4], 0);
+    assert!(counts_of("4 2 burst=5")[4] > 0);
+    assert_eq!(counts_of("4 2 rate=0"), [2, 0, 1024, 0, 0]);
+    assert!(counts_of("4 2 rate=100")[3] > 200);
+    let upto = counts_of("4 2 upto=3");
+    assert!(upto[2] > 200 && upto[3] > 400 && upto[4] > 200);
+    for word in ["noise", "sync=1", "sync=11", "swap", "alternate"] {
+        assert_eq!(
+            counts_of(&format!("4 2 {word}@1")),
+            [2, 1, 512, 0, 0],
+            "{word}"
+        );
+    }
+    let some = counts_of("4 100 noise%30")[1];
+    assert!((10..50).contains(&some));
+    assert_eq!(counts_of("4 2 chaff")[1], 0);
+    let good = transcript(&make("4 4"));
+    assert_eq!(transcript(&make("4 4 bbit")), good);
+    for word in ["copy", "majority=2", "scale=2"] {
+        assert_eq!(transcript(&make(&format!("4 4 {word}"))), good, "{word}");
+    }
+    let five = transcript(&make("4 4 majority=3"));
+    assert!(lines(&five, "factors")
+        .iter()
+        .all(|line| line.contains("--")));
+    assert_eq!(lines(&five, "words"), lines(&good, "words"));
+    let seven = transcript(&make("4 4 service=1@2"));
+    let number = |line: &&str| line.as_bytes()[10];
+    let numbers: Vec<u8> = lines(&seven, "service").iter().map(number).collect();
+    assert_eq!(numbers, *b"0700");
+}
+
+/// The same seed gives the same bytes, here and everywhere; another seed gives others.
+#[test]
+fn same_seed_same_bytes() {
+    let sum = |reel: &[u8]| {
+        reel.iter().fold(0u32, |sum, byte| {
+            sum.wrapping_mul(31).wrapping_add(u32::from(*byte))
+        })
+    };
+    let words =
+        "upto=4 rate=5 sync=1%30 scale=4 service=1%20 gap=9 tail=11 low=2 burst=3 copy chaff@3";
+    assert_eq!(sum(&make("1 3")), 1866234999);
+    assert_eq!(sum(&make(&format!("1 4 {words}"))), 3326401160);
+    assert_ne!(make("1 3"), make("2 3"));
+}
+
+#[test]
+fn words_that_are_refused() {
+    for word in [
+        "",
+        "nothing",
+        "places",
+        "places=",
+        "places=64",
+        "places=x",
+        "places=-1",
+        "copy=1",
+        "sync=12",
+        "noise%101",
+        "noise%",
+        "noise@",
+        "noise@x",
+        "noise@1-",
+        "phase=0",
+        "phase=129",
+        "gap=4294967280",
+        "count=4294967296",
+        "cut",
+        "cut=-1",
+        "places=99999999999999999999",
+        "headless=1",
+    ] {
+        let order = Order::parse("1", "1", &[word.to_string()]);
+        assert!(order.is_err(), "'{word}'");
+    }
+    assert!(Order::parse("x", "1", &[]).is_err());
+    assert!(Order::parse("1", "", &[]).is_err());
+}

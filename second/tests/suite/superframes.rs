@@ -1,0 +1,241 @@
+//! Taking superframes: samples, marks, factors, words.
+
+use crate::hand::{busy_state, make, superframes, Superframe, SYNC_2};
+use second::numbers::Refusal;
+use second::service::Sync;
+use second::source;
+use second::superframe::{State, Taken};
+
+/// Both sets of factors 0.
+fn at_zero() -> State {
+    let mut state = State::fresh();
+    state.now = [0; 32];
+    state.after = [0; 32];
+    state
+}
+
+fn take(state: &State, superframe: &Superframe) -> Taken {
+    let (taken, _) = state.take(&superframe.bytes());
+    taken.unwrap()
+}
+
+/// One code in one place: it comes out in its frame and channel and nowhere else.
+#[test]
+fn every_channel_in_its_place() {
+    for channel in 0..32 {
+        let frame = (17 * channel + 3) % 64;
+        let taken = take(&at_zero(), &Superframe::zero().code(frame, channel, -1));
+        for f in 0..64 {
+            for c in 0..32 {
+                let expected = if (f, c) == (frame, channel) { -4 } else { 0 };
+                assert_eq!(taken.samples[f][c], expected);
+            }
+        }
+        assert_eq!(taken.marks, [[0; 32]; 64]);
+        assert_eq!(
+            (taken.counts.clean, taken.counts.mended, taken.counts.bad),
+            (512, 0, 0)
+        );
+    }
+}
+
+/// Each channel takes its own factor, that of this superframe and not of the next.
+#[test]
+fn every_channel_takes_its_factor() {
+    let mut state = busy_state();
+    let mut superframe = Superframe::zero();
+    for channel in 0..32 {
+        superframe = superframe.code(63, channel, -8192);
+        state.now[channel] = (channel % 8) as u8;
+    }
+    let taken = take(&state, &superframe);
+    for channel in 0..32 {
+        assert_eq!(taken.samples[63][channel], (-32768 >> (channel % 8)) as i16);
+        assert_eq!(taken.marks[63][channel], 0);
+    }
+}
+
+/// No factor: mark 3 and sample 0, whatever the block's reading; the counts stay as read.
+#[test]
+fn mark_3_wins() {
+    let mut state = at_zero();
+    state.now[5] = 8;
+    let mut superframe = Superframe::zero().code(0, 4, 100).code(0, 5, 100);
+    for place in [0, 1, 2] {
+        superframe.blocks[0][1][place] ^= 1;
+    }
+    let taken = take(&state, &superframe);
+    assert_eq!(taken.marks[0][4..8], [2, 3, 2, 2]);
+    assert_eq!(taken.samples[0][5], 0);
+    assert_eq!(taken.marks[1][4..8], [0, 3, 0, 0]);
+    assert_eq!(
+        (taken.counts.clean, taken.counts.mended, taken.counts.bad),
+        (511, 0, 1)
+    );
+}
+
+/// A bad block's samples come from the bits as received; a mended one's from the mended bits. The mark
+/// stands on all four channels.
+#[test]
+fn samples_of_mended_and_bad_blocks() {
+    for (wrong, mark) in [(0, 0), (1, 1), (2, 1), (3, 2)] {
+        let mut superframe = Superframe::zero().code(9, 16, 0x1000).code(9, 19, 7);
+        // Sound bits 2, 3 and 4 of the first channel: 4096, 2048 and 1024.
+        for place in [1, 2, 3].into_iter().take(wrong) {
+            superframe.blocks[9][4][place] ^= 1;
+        }
+        let taken = take(&at_zero(), &superframe);
+        let code = if mark == 2 { 0x0c00 } else { 0x1000 };
+        assert_eq!(taken.samples[9][16..20], [4 * code, 0, 0, 28]);
+        let mut marks = [0; 32];
+        marks[16..20].fill(mark);
+        assert_eq!(taken.marks[9], marks);
+        let counts = taken.counts;
+        let expected = [(512, 0, 0), (511, 1, 0), (511, 0, 1)][usize::from(mark)];
+        assert_eq!((counts.clean, counts.mended, counts.bad), expected);
+    }
+}
+
+/// Scale words and information words of each programme, and the set of factors that they go into.
+#[test]
+fn factors_go_two_ahead() {
+    for programme in 0..16 {
+        let superframe =
+            Superframe::zero().scale(programme, "00000111010001", "1000000000000000000011");
+        let state = busy_state();
+        let (taken, next) = state.take(&superframe.bytes());
+        let taken = taken.unwrap();
+        for (p, extra) in taken.extra.iter().enumerate() {
+            let expected = if p == programme {
+                ((0, 1), 0x20_0003)
+            } else {
+                ((0, 0), 0)
+            };
+            assert_eq!((extra.factors.unwrap(), extra.information), expected);
+        }
+        let mut after = [0; 32];
+        after[2 * programme + 1] = 1;
+        assert_eq!(next.now, state.after);
+        assert_eq!(next.after, after);
+    }
+}
+
+/// Number 5: that programme's two factors are missing, in the set for the superframe after the next;
+/// extra bits of bad blocks count as received.
+#[test]
+fn number_5_inside_a_superframe() {
+    let ones = "1".repeat(64);
+    let mut superframe = Superframe::zero().extra(11, &ones);
+    for blocks in &mut superframe.blocks {
+        for place in [0, 1, 2] {
+            blocks[5][place] ^= 1;
+        }
+    }
+    let state = at_zero();
+    let (taken, next) = state.take(&superframe.bytes());
+    let taken = taken.unwrap();
+    assert_eq!(taken.counts.bad, 64);
+    assert_eq!(
+        (taken.extra[11].factors, taken.extra[11].information),
+        (None, 0x3f_ffff)
+    );
+    assert_eq!(
+        (taken.extra[10].factors, taken.extra[10].information),
+        (Some((0, 0)), 0)
+    );
+    let mut after = [0; 32];
+    after[22..24].fill(8);
+    assert_eq!((next.now, next.after), ([0; 32], after));
+}
+
+/// The service bits of the 64 frames A: six bytes, then the sync.
+#[test]
+fn service_bits() {
+    let mut superframe = Superframe::zero();
+    superframe.six = [0x80, 0x01, 0x12, 0x34, 0x56, 0xff];
+    superframe.sync = SYNC_2;
+    let state = busy_state();
+    let (taken, next) = state.take(&superframe.bytes());
+    let taken = taken.unwrap();
+    assert_eq!(taken.six, superframe.six);
+    assert_eq!((taken.heard.position, taken.heard.sync), (5, Sync::Two));
+    let sixteen = second::bits::of_text(SYNC_2);
+    let (heard, alone) = state.take_service(&superframe.six, &sixteen).unwrap();
+    assert_eq!(taken.heard, heard);
+    assert_eq!(next.service, alone.service);
+    // Bit 12 of B changes nothing.
+    let mut bytes = superframe.bytes();
+    for frame in bytes[2560..].chunks_mut(40) {
+        frame[1] |= 0x10;
+    }
+    assert_eq!(state.take(&bytes), (Ok(taken), next));
+}
+
+/// One wrong sync bit in any of 128 frames, or the halves exchanged, or any other length.
+#[test]
+fn lost_superframes() {
+    let state = busy_state();
+    let lost = (Err(Refusal::Sync), state.lose().unwrap());
+    let good = Superframe::zero().bytes();
+    for frame in 0..128 {
+        let mut bytes = good.clone();
+        bytes[40 * frame + frame % 2] ^= 0x20;
+        assert_eq!(state.take(&bytes), lost, "frame {frame}");
+    }
+    let mut exchanged = good.clone();
+    exchanged.rotate_left(2560);
+    assert_eq!(state.take(&exchanged), lost);
+    let longer = [good.clone(), vec![0]].concat();
+    for bytes in [&good[..5119], &[], &longer] {
+        assert_eq!(state.take(bytes), (Err(Refusal::Length), state.clone()));
+    }
+}
+
+/// A reel as it is made: from the third superframe on every sample comes back, less what its factor drops.
+#[test]
+fn sound_comes_back() {
+    let reel = make("5 6");
+    let mut state = State::fresh();
+    for (n, bytes) in superframes(&reel).into_iter().enumerate() {
+        let k = n as u64 + 1;
+        let (taken, next) = state.take(bytes);
+        let taken = taken.unwrap();
+        state = next;
+        let ahead = source::sound(5, k + 2).unwrap();
+        for (p, extra) in taken.extra.iter().enumerate() {
+            let factors = (ahead.factors[2 * p], ahead.factors[2 * p + 1]);
+            assert_eq!(extra.factors, Some(factors));
+        }
+        let sound = source::sound(5, k).unwrap();
+        for f in 0..64 {
+            for channel in 0..32 {
+                let x = sound.samples[channel][f];
+                let rest = match sound.factors[channel] {
+                    0 => x & 3,
+                    1 => x & 1,
+                    _ => 0,
+                };
+                let expected = if k <= 2 { (0, 3) } else { (x - rest, 0) };
+                assert_eq!(
+                    (taken.samples[f][channel], taken.marks[f][channel]),
+                    expected
+                );
+            }
+        }
+    }
+}
+
+/// Superframe 4 is lost: 5 still has its factors, 6 has none, 7 has them again.
+#[test]
+fn factors_around_a_loss() {
+    let reel = make("5 7 sync=1@4");
+    let mut state = State::fresh();
+    let mut marks = Vec::new();
+    for bytes in superframes(&reel) {
+        let (taken, next) = state.take(bytes);
+        state = next;
+        marks.push(taken.ok().map(|taken| taken.marks[0][0]));
+    }
+    let expected = [Some(3), Some(3), Some(0), None, Some(0), Some(3), Some(0)];
+    assert_eq!(marks, expected);
+}
