@@ -1,0 +1,4 @@
+pub mod Sum
+pub mod Division
+pub mod Register
+pub mod Unique
