@@ -24,7 +24,7 @@ use Rattle.remainder.specs.Polynomial.{_⊕_, zeros, times}
 use Rattle.remainder.specs.Remainder.{takeOff, step, divide, remainder, checkBits}
 use Rattle.remainder.proofs.Sum.{cons, length-⊕, below-⊕, ⊕-assoc, ⊕-comm, ⊕-append, ⊕-zeros, zeros-⊕, ⊕-self, ⊕-cancel, length-zeros, below-zeros, zeros-snoc, length-times, times-zero, ⊕-times}
 
-length-snoc : (p : List ℕ) (b : ℕ) → length (p ++ (b ∷ [])) ≡ suc (length p)
+pub length-snoc : (p : List ℕ) (b : ℕ) → length (p ++ (b ∷ [])) ≡ suc (length p)
 length-snoc [] b = refl
 length-snoc (x ∷ p) b = ap suc (length-snoc p b)
 

@@ -8,6 +8,7 @@
 --     turn, ended                             a step more of a word; all of it, as a number
 --     whole, resumed, behind                  a division from the beginning; one that goes on behind a word, with zeros
 --     small-remainder                         a remainder's number fits the register
+--     remainder-number, check-number          what the public functions promise, for a generator whose coefficients are known
 -- Assumes nothing.
 use mathlib.Core.Path.{_≡_, refl, sym, ap, ap₂, _∙_, subst}
 use mathlib.Core.List.{List, [], _∷_, _++_}
@@ -15,6 +16,7 @@ use Prim.Native.Nat.{ℕ, zero, suc, _+_, _*_, _/_, _%_, _^_, _<_, _≤_}
 use native.Mathlib.Nat.{mod-eq-of-lt, div-lt-iff-lt-mul, zero-mul, one-mul, mod-add-mod, zero-div}
 use native.Mathlib.Numerals.{add-one, one-add}
 use native.Mathlib.Omega.{arith}
+use borrow.Author.Tests.{le-leb}
 use lib.Bits.{bitXor, xor-shr, xor-mod}
 use lib.Pow.{field, mod-mod-pow, pow-pos, pow-lt}
 use lib.ListN.{length, take, getD}
@@ -22,8 +24,8 @@ use lib.Seq.{take-suc, take-all}
 use Rattle.bits.specs.Digits.{value, digits}
 use Rattle.bits.proofs.Digits.{length-digits, digits-append, value-digits, digits-value, value-below}
 use Rattle.remainder.specs.Polynomial.{_⊕_, zeros, times}
-use Rattle.remainder.specs.Remainder.{takeOff, step, divide, remainder, checkBits}
-use Rattle.remainder.proofs.Sum.{cons, ⊕-append, zeros-snoc, times-zero}
+use Rattle.remainder.specs.Remainder.{takeOff, step, divide, remainder, checkBits, remainderNumber, checkNumber}
+use Rattle.remainder.proofs.Sum.{cons, ⊕-append, zeros-snoc, times-zero, times-one}
 use Rattle.remainder.proofs.Division.{divide-append, length-remainder, below-remainder}
 
 pub digits-zero : (n : ℕ) → digits 2 n 0 ≡ zeros n
@@ -64,11 +66,6 @@ digits-xor (suc n) a b =
     ∙ sym (⊕-append (digits 2 n (a / 2)) (digits 2 n (b / 2)) (a % 2 ∷ []) (b % 2 ∷ []) (length-digits 2 n (a / 2) ∙ sym (length-digits 2 n (b / 2))))
 
 -- ---- the step
-times-one : (p : List ℕ) → times 1 p ≡ p
-unfolding times
-times-one [] = refl
-times-one (y ∷ p) = cons (one-mul y) (times-one p)
-
 times-digits : (n x y : ℕ) → x < 2 → digits 2 n (x * y) ≡ times x (digits 2 n y)
 times-digits n zero y h =
     ap (digits 2 n) (zero-mul y) ∙ digits-zero n ∙ ap zeros (sym (length-digits 2 n y)) ∙ sym (times-zero (digits 2 n y))
@@ -146,3 +143,13 @@ pub small-remainder : (n generator : ℕ) (w : List ℕ) → value 2 (remainder 
 small-remainder n generator w =
     let g : List ℕ = digits 2 n generator in
     rw (length-remainder g w, length-digits 2 n generator) at (value-below 2 (remainder g w) (below-remainder g w))
+
+-- ---- the numbers that the public functions promise, for a generator whose coefficients are known
+module _ (n generator : ℕ) (g : List ℕ) (short : n ≤ 31) (coefficients : digits 2 n generator ≡ g) (w : List ℕ) where
+  pub remainder-number : remainderNumber n generator w ≡ value 2 (remainder g w)
+  unfolding remainderNumber
+  remainder-number = rw (le-leb n 31 short, coefficients)
+
+  pub check-number : checkNumber n generator w ≡ value 2 (checkBits g w)
+  unfolding checkNumber
+  check-number = rw (le-leb n 31 short, coefficients)

@@ -5,13 +5,13 @@
 --     ⊕-cancel                      two whose sum is zero are equal
 --     ⊕-append                      the sum in two parts
 --     length-zeros, below-zeros, zeros-snoc
---     length-times, times-zero, ⊕-times
+--     length-times, times-zero, times-one, ⊕-times
 --                                   a coefficient times a polynomial, and how sums go with it
 -- Assumes nothing.
 use mathlib.Core.Path.{_≡_, refl, sym, ap, ap₂, _∙_}
 use mathlib.Core.List.{List, [], _∷_, _++_}
 use Prim.Native.Nat.{ℕ, zero, suc, _+_, _*_, _/_, _%_, _<_}
-use native.Mathlib.Nat.{suc-inj, suc-ne-zero, zero-mul, mul-assoc, add-mul, mod-add-div, add-mul-mod-self-left, mod-add-mod, add-mod-mod, add-mod}
+use native.Mathlib.Nat.{suc-inj, suc-ne-zero, zero-mul, one-mul, mul-assoc, add-mul, mod-add-div, add-mul-mod-self-left, mod-add-mod, add-mod-mod, add-mod}
 use native.Mathlib.Omega.{arith}
 use lib.ListN.{length, length-replicate, length-append}
 use Rattle.bits.specs.Digits.{Below}
@@ -102,6 +102,11 @@ pub times-zero : (p : List ℕ) → times 0 p ≡ zeros (length p)
 unfolding times
 times-zero [] = refl
 times-zero (y ∷ p) = cons (zero-mul y) (times-zero p)
+
+pub times-one : (p : List ℕ) → times 1 p ≡ p
+unfolding times
+times-one [] = refl
+times-one (y ∷ p) = cons (one-mul y) (times-one p)
 
 odd-times : (n y : ℕ) → n % 2 * y % 2 ≡ n * y % 2
 odd-times n y =

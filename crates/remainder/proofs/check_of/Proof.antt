@@ -8,9 +8,9 @@ use borrow.Author.Needs.{needs}
 use borrow.Author.Tests.{le-leb, lt-leb}
 use Rattle.bits.specs.Digits.{value, digits}
 use Rattle.remainder.specs.Polynomial.{zeros}
-use Rattle.remainder.specs.Remainder.{step, divide, remainder, remainderNumber, checkNumber}
+use Rattle.remainder.specs.Remainder.{step, divide, remainder, checkNumber}
 use Rattle.remainder.proofs.Sum.{length-zeros}
-use Rattle.remainder.proofs.Register.{turn, ended, resumed, behind, small-remainder}
+use Rattle.remainder.proofs.Register.{turn, ended, resumed, behind, small-remainder, remainder-number}
 use Rattle.remainder.proofs.check_of.Statement.{statement}
 use Rattle.remainder.proofs.check_of.Tie as tie
 
@@ -29,16 +29,12 @@ returns c = rw (lt-leb _ _ (c .if1 .taken))
 remainder-of-requires : tie.Need-remainder-of-requires Inv-loop μ-loop
 remainder-of-requires c κs = search needs
 
-number : (n generator r : ℕ) (w : List ℕ) → n ≤ 31 → r ≡ remainderNumber n generator w → r ≡ value 2 (remainder (digits 2 n generator) w)
-unfolding remainderNumber
-number n generator r w h e = rw (le-leb n 31 h) at e
-
 loop-holds : tie.Need-loop-holds Inv-loop μ-loop
 unfolding divide
 loop-holds c =
     let args = c .before .before .before .args in
     let w = args .bits .now in
-    let made = number (args .degree) (args .generator) (c .remainder-of .result) w (c .before .if1 .left) (c .remainder-of .ensures) in
+    let made = c .remainder-of .ensures ∙ remainder-number (args .degree) (args .generator) _ (c .before .if1 .left) refl w in
     (search needs, rw made (small-remainder (args .degree) (args .generator) w), rw made (resumed (args .degree) (args .generator) w))
 
 next-requires : tie.Need-next-requires Inv-loop μ-loop
