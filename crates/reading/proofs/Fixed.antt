@@ -3,6 +3,7 @@
 --     places-fit, fit-places    what the search looks for are such sets
 --     reading-reads         the reading that is computed meets the demand, at every radius
 --     reads-unique          no two readings meet it at one word, up to the largest radius
+--     places-unique         two such sets are never of one word
 --     reading-turned        a set of places, however it was found, fixes the reading
 --     reading-bad           and so does that there is none
 -- Assumes nothing.
@@ -18,7 +19,7 @@ use Rattle.bits.specs.Digits.{Below}
 use Rattle.remainder.specs.Polynomial.{_⊕_, zeros}
 use Rattle.remainder.specs.Remainder.{remainder}
 use Rattle.remainder.specs.Columns.{columns}
-use Rattle.remainder.proofs.Sum.{length-⊕, below-⊕, ⊕-comm, ⊕-assoc, ⊕-self, ⊕-zeros, zeros-⊕, ⊕-cancel, length-zeros, below-zeros}
+use Rattle.remainder.proofs.Sum.{length-⊕, below-⊕, ⊕-swap, ⊕-self, ⊕-zeros, zeros-⊕, ⊕-cancel}
 use Rattle.remainder.proofs.Division.{length-remainder, below-remainder, remainder-⊕}
 use Rattle.remainder.proofs.Ones.{ones-zeros, none-zeros}
 use Rattle.remainder.proofs.Columns.{sumAt, sumAt-remainder, length-columns}
@@ -131,6 +132,23 @@ module _ (radius : ℕ) (w : List ℕ) (sized : length w ≡ 63) (bits : Below 2
 one-near : (radius : ℕ) (w a b : List ℕ) → radius ≤ largestRadius → length w ≡ 63 → CodeWord a → CodeWord b → distance a w ≤ radius → distance b w ≤ radius → a ≡ b
 one-near radius w a b h l ca cb da db =
     code-near a b ca cb (omega (arith, distance-triangle a w b (l ∙ sym (code-length b cb)), distance-comm w b))
+
+-- two sets of few places never have one remainder
+pub places-unique : (radius : ℕ) (w m n : List ℕ) → radius ≤ largestRadius → length w ≡ 63 → Places radius w m → Places radius w n → m ≡ n
+places-unique radius w m n small sized p q =
+    ⊕-cancel m n 63 (p .bits) (q .bits) (p .sized) (q .sized)
+    (sym (zeros-⊕ (m ⊕ n) 63 (below-⊕ m n) both) ∙ ap (λ (l : List ℕ). l ⊕ (m ⊕ n)) (ap zeros (sym sized) ∙ sym (⊕-self w))
+    ∙ ⊕-swap w w m n ∙ ap (λ (l : List ℕ). (w ⊕ m) ⊕ l) (sym same) ∙ ⊕-self (w ⊕ m)
+    ∙ ap zeros (length-⊕ w m (sized ∙ sym (p .sized)) ∙ sized))
+  where
+    both : length (m ⊕ n) ≡ 63
+    both = length-⊕ m n (p .sized ∙ sym (q .sized)) ∙ p .sized
+
+    near : (l : List ℕ) → Places radius w l → distance (w ⊕ l) w ≤ radius
+    near l h = omega (arith, distance-comm (w ⊕ l) w, distance-changed w l (sized ∙ sym (h .sized)), h .few)
+
+    same : w ⊕ m ≡ w ⊕ n
+    same = one-near radius w (w ⊕ m) (w ⊕ n) small sized (places-word radius w m sized p) (places-word radius w n sized q) (near m p) (near n q)
 
 module _ (radius : ℕ) (w : List ℕ) (small : radius ≤ largestRadius) (sized : length w ≡ 63) where
   clean-mended : (n : ℕ) (c : List ℕ) → Reads radius w clean → Reads radius w (mended n c) → ⊥
