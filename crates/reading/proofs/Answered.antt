@@ -120,12 +120,12 @@ module _ (s : List ℕ) where
       let f : Few 63 m = found-few m h in
       masked-reads w l b m f ∙ ap (readAs w) (sym (answer-inj p (masked m f) (e ∙ sym (masked-places m f))))
 
-pub answered-within : (r : ℕ) (p : Places) → answer p ≡ wrongPlaces r → Within p
+pub answered-within : (r : ℕ) (p : Places) → answer p ≡ wrongPlaces 2 r → Within p
 unfolding wrongPlaces
 answered-within r p e =
     within (digits 2 19 r) p (seek 2 (columns blockGenerator 63) (digits 2 19 r)) (seek-good 2 (columns blockGenerator 63) (digits 2 19 r)) e
 
-pub answered-reading : (w : List ℕ) (r : ℕ) (p : Places) → length w ≡ 63 → Below 2 w → r ≡ value 2 (remainder blockGenerator w) → answer p ≡ wrongPlaces r
+pub answered-reading : (w : List ℕ) (r : ℕ) (p : Places) → length w ≡ 63 → Below 2 w → r ≡ value 2 (remainder blockGenerator w) → answer p ≡ wrongPlaces 2 r
     → reading 2 w ≡ readAs w p
 unfolding reading wrongPlaces
 answered-reading w r p h b e a =

@@ -6,5 +6,5 @@ use Rattle.reading.specs.Wrong.{wrongPlaces, answer}
 use Rattle.reading.specs.declared.Places.{Places}
 use Rattle.reading.proofs.Answered.{answer-inj}
 
-pub places-of-unique : (remainder : ℕ) (p q : Places) → answer p ≡ wrongPlaces remainder → answer q ≡ wrongPlaces remainder → p ≡ q
+pub places-of-unique : (remainder : ℕ) (p q : Places) → answer p ≡ wrongPlaces 2 remainder → answer q ≡ wrongPlaces 2 remainder → p ≡ q
 places-of-unique remainder p q h k = answer-inj p q (h ∙ sym k)

@@ -8,10 +8,10 @@ use Rattle.remainder.specs.Polynomial.{_⊕_, zeros, times}
 use Rattle.remainder.specs.Remainder.{takeOff, step, divide, remainder, checkBits}
 use Rattle.remainder.specs.Columns.{column, columns}
 use Rattle.code.specs.Generators.{power, powers, blockGenerator}
-use Rattle.reading.specs.Reading.{bad, mended, turned}
 use Rattle.code.specs.Words.{encode}
-use Rattle.reading.specs.Demand.{sent}
+use Rattle.reading.specs.Reading.{bad, mended, turned}
 use Rattle.reading.specs.Search.{ahead, orElse, seek, found, reading}
+use Rattle.reading.specs.Demand.{sent}
 
 -- 63 ones
 pub all-ones : reading 2 (replicate 63 1) ≡ bad

@@ -28,6 +28,7 @@ use Rattle.remainder.proofs.Columns.{sumAt, length-columns, length-column, belo
 use Rattle.remainder.proofs.Register.{digits-zero, digits-low, digits-xor}
 use Rattle.code.specs.Generators.{blockGenerator}
 use Rattle.code.proofs.Smallest.{block-size}
+use Rattle.reading.specs.Reading.{largestRadius}
 use Rattle.reading.specs.Search.{seek}
 use Rattle.reading.specs.Wrong.{placesFrom, placesIn, wrongPlaces, answer, columnNumbers}
 use Rattle.reading.specs.declared.Places.the-variants.{Zero, One, Two, Nowhere}
@@ -41,10 +42,10 @@ g = blockGenerator
 abbrev cs : List (List ℕ)
 cs = columns blockGenerator 63
 
-abbrev pub Fitting : ℕ → List ℕ → Type 0
-Fitting r m = Fits 2 (columns blockGenerator 63) (digits 2 19 r) m
+abbrev pub Fitting : ℕ → ℕ → List ℕ → Type 0
+Fitting radius r m = Fits radius (columns blockGenerator 63) (digits 2 19 r) m
 
-module _ (r : ℕ) where
+module _ (radius : ℕ) (small : radius ≤ largestRadius) (r : ℕ) where
   -- a word with that remainder
   word : List ℕ
   word = zeros 44 ++ digits 2 19 r
@@ -59,29 +60,29 @@ module _ (r : ℕ) where
       remainder-zeros g 44 (digits 2 19 r)
       ∙ remainder-short g (digits 2 19 r) (below-digits 2 19 r (omega arith)) (length-digits 2 19 r ∙ sym block-size)
 
-  as-places : (m : List ℕ) → Fitting r m → Places 2 word m
-  as-places m f = fit-places 2 word m (subst (λ (s : List ℕ). Fits 2 cs s m) (sym word-leaves) f)
+  as-places : (m : List ℕ) → Fitting radius r m → Places radius word m
+  as-places m f = fit-places radius word m (subst (λ (s : List ℕ). Fits radius cs s m) (sym word-leaves) f)
 
-  one-fits : (m n : List ℕ) → Fitting r m → Fitting r n → m ≡ n
-  one-fits m n f h = places-unique 2 word m n (omega arith) word-size (as-places m f) (as-places n h)
+  one-fits : (m n : List ℕ) → Fitting radius r m → Fitting radius r n → m ≡ n
+  one-fits m n f h = places-unique radius word m n small word-size (as-places m f) (as-places n h)
 
-  found-is : (m : List ℕ) → Fitting r m → (o : Option (List ℕ)) → Good 2 cs (digits 2 19 r) o → placesIn o ≡ some (placesFrom 0 m)
+  found-is : (m : List ℕ) → Fitting radius r m → (o : Option (List ℕ)) → Good radius cs (digits 2 19 r) o → placesIn o ≡ some (placesFrom 0 m)
   unfolding Good placesIn
   found-is m f none empty = absurd (empty m f)
   found-is m f (some n) h = ap (λ (l : List ℕ). some (placesFrom 0 l)) (one-fits n m h f)
 
-  none-is : ((m : List ℕ) → Fitting r m → ⊥) → (o : Option (List ℕ)) → Good 2 cs (digits 2 19 r) o → placesIn o ≡ none
+  none-is : ((m : List ℕ) → Fitting radius r m → ⊥) → (o : Option (List ℕ)) → Good radius cs (digits 2 19 r) o → placesIn o ≡ none
   unfolding Good placesIn
   none-is empty none h = refl
   none-is empty (some n) h = absurd (empty n h)
 
-  pub wrong-found : (m : List ℕ) → Fitting r m → wrongPlaces r ≡ some (placesFrom 0 m)
+  pub wrong-found : (m : List ℕ) → Fitting radius r m → wrongPlaces radius r ≡ some (placesFrom 0 m)
   unfolding wrongPlaces
-  wrong-found m f = found-is m f (seek 2 cs (digits 2 19 r)) (seek-good 2 cs (digits 2 19 r))
+  wrong-found m f = found-is m f (seek radius cs (digits 2 19 r)) (seek-good radius cs (digits 2 19 r))
 
-  pub wrong-none : ((m : List ℕ) → Fitting r m → ⊥) → wrongPlaces r ≡ none
+  pub wrong-none : ((m : List ℕ) → Fitting radius r m → ⊥) → wrongPlaces radius r ≡ none
   unfolding wrongPlaces
-  wrong-none empty = none-is empty (seek 2 cs (digits 2 19 r)) (seek-good 2 cs (digits 2 19 r))
+  wrong-none empty = none-is empty (seek radius cs (digits 2 19 r)) (seek-good radius cs (digits 2 19 r))
 
 -- ---- the columns as numbers
 abbrev pub t : ℕ → ℕ
@@ -138,7 +139,7 @@ module _ (r : ℕ) where
       sumAt-pair cs 63 i j (digits 2 19 r) (length-columns g 63) h l
       ∙ ap₂ _⊕_ (ap₂ _⊕_ (sym (digits-low 19 r)) (t-column i li) ∙ sym (digits-xor 19 (low r) (t i))) (t-column j l)
 
-  pub fits-zero : low r ≡ 0 → Fitting r (zeros 63)
+  pub fits-zero : low r ≡ 0 → Fitting 2 r (zeros 63)
   fits-zero e =
       record {
         sized = length-zeros 63 ∙ sym (length-columns g 63);
@@ -147,7 +148,7 @@ module _ (r : ℕ) where
         none-left = ap ones (sumAt-zeros 63 cs (digits 2 19 r) ∙ sym (digits-low 19 r) ∙ ap (digits 2 19) e ∙ digits-zero 19) ∙ ones-zeros 19;
       }
 
-  pub fits-at : (i : ℕ) → i < 63 → t i ≡ low r → Fitting r (at 63 i)
+  pub fits-at : (i : ℕ) → i < 63 → t i ≡ low r → Fitting 2 r (at 63 i)
   fits-at i l e =
       record {
         sized = length-at 63 i ∙ sym (length-columns g 63);
@@ -156,7 +157,7 @@ module _ (r : ℕ) where
         none-left = ap ones (sum-at i l) ∙ equal-zero (low r) (t i) (sym e);
       }
 
-  pub fits-pair : (i j : ℕ) → i < j → j < 63 → t j ≡ bitXor (low r) (t i) → Fitting r (pair 63 i j)
+  pub fits-pair : (i j : ℕ) → i < j → j < 63 → t j ≡ bitXor (low r) (t i) → Fitting 2 r (pair 63 i j)
   fits-pair i j h l e =
       record {
         sized = length-pair 63 i j ∙ sym (length-columns g 63);
@@ -166,7 +167,7 @@ module _ (r : ℕ) where
       }
 
   pub none-fits : (low r ≡ 0 → ⊥) → ((i : ℕ) → i < 63 → t i ≡ low r → ⊥) → ((i j : ℕ) → i < j → j < 63 → t j ≡ bitXor (low r) (t i) → ⊥)
-      → (m : List ℕ) → Fitting r m → ⊥
+      → (m : List ℕ) → Fitting 2 r m → ⊥
   none-fits not-zero not-one not-two m f = go (few 63 m (f .sized ∙ length-columns g 63) (f .bits) (f .few))
     where
       left : (n : List ℕ) → m ≡ n → ones (sumAt cs n (digits 2 19 r)) ≡ 0
@@ -189,22 +190,22 @@ module _ (r : ℕ) where
           (ap ones (sym (sum-pair i j h l)) ∙ left (pair 63 i j) e)))
 
   -- ---- what the code answers
-  pub answer-zero : low r ≡ 0 → answer Zero ≡ wrongPlaces r
+  pub answer-zero : low r ≡ 0 → answer Zero ≡ wrongPlaces 2 r
   unfolding answer
-  answer-zero e = ap some (sym (places-zeros 0 63)) ∙ sym (wrong-found r (zeros 63) (fits-zero e))
+  answer-zero e = ap some (sym (places-zeros 0 63)) ∙ sym (wrong-found 2 (omega arith) r (zeros 63) (fits-zero e))
 
-  pub answer-one : (i : ℕ) → i < 63 → t i ≡ low r → answer (One i) ≡ wrongPlaces r
+  pub answer-one : (i : ℕ) → i < 63 → t i ≡ low r → answer (One i) ≡ wrongPlaces 2 r
   unfolding answer
   answer-one i l e =
-      ap (λ (p : ℕ). some (p ∷ [])) (sym (zero-add i)) ∙ ap some (sym (places-at 0 63 i l)) ∙ sym (wrong-found r (at 63 i) (fits-at i l e))
+      ap (λ (p : ℕ). some (p ∷ [])) (sym (zero-add i)) ∙ ap some (sym (places-at 0 63 i l)) ∙ sym (wrong-found 2 (omega arith) r (at 63 i) (fits-at i l e))
 
-  pub answer-two : (i j : ℕ) → i < j → j < 63 → t j ≡ bitXor (low r) (t i) → answer (Two i j) ≡ wrongPlaces r
+  pub answer-two : (i j : ℕ) → i < j → j < 63 → t j ≡ bitXor (low r) (t i) → answer (Two i j) ≡ wrongPlaces 2 r
   unfolding answer
   answer-two i j h l e =
       ap₂ (λ (p q : ℕ). some (p ∷ q ∷ [])) (sym (zero-add i)) (sym (zero-add j)) ∙ ap some (sym (places-pair 0 63 i j h l))
-      ∙ sym (wrong-found r (pair 63 i j) (fits-pair i j h l e))
+      ∙ sym (wrong-found 2 (omega arith) r (pair 63 i j) (fits-pair i j h l e))
 
   pub answer-none : (low r ≡ 0 → ⊥) → ((i : ℕ) → i < 63 → t i ≡ low r → ⊥) → ((i j : ℕ) → i < j → j < 63 → t j ≡ bitXor (low r) (t i) → ⊥)
-      → answer Nowhere ≡ wrongPlaces r
+      → answer Nowhere ≡ wrongPlaces 2 r
   unfolding answer
-  answer-none not-zero not-one not-two = sym (wrong-none r (none-fits not-zero not-one not-two))
+  answer-none not-zero not-one not-two = sym (wrong-none 2 (omega arith) r (none-fits not-zero not-one not-two))

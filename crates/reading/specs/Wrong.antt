@@ -1,7 +1,8 @@
 -- Which places are wrong, from the remainder of the word as a number.
 --     placesFrom k m        the places of the ones of a mask whose first place is k
---     wrongPlaces r         the places, at most two of the 63, that leave the remainder with the 19 low digits of r; none where there are no such
---     answer p              the same of an answer of the code
+--     placesIn m            the same, counted from 0, of a mask that was found
+--     wrongPlaces radius r  the places, at most `radius` of the 63, that leave the remainder with the 19 low digits of r; none where there are no such
+--     answer p              the same of an answer of the code, which looks for at most two
 --     turn w i              the word with the bit at a place turned
 --     readAs w p            the reading of w that an answer of the code makes
 --     Within p              the places of an answer are among the 63, and in order
@@ -29,8 +30,8 @@ unfoldable pub placesIn : Option (List ℕ) → Option (List ℕ)
 placesIn none = none
 placesIn (some m) = some (placesFrom 0 m)
 
-unfoldable pub wrongPlaces : ℕ → Option (List ℕ)
-wrongPlaces r = placesIn (seek 2 (columns blockGenerator 63) (digits 2 19 r))
+unfoldable pub wrongPlaces : ℕ → ℕ → Option (List ℕ)
+wrongPlaces radius r = placesIn (seek radius (columns blockGenerator 63) (digits 2 19 r))
 
 unfoldable pub answer : Places → Option (List ℕ)
 answer Zero = some []

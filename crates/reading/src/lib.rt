@@ -6,6 +6,9 @@ ghost use Rattle.reading.specs.Wrong.{columnNumbers, First, wrongPlaces,
 
 const PLACES: usize = 63;
 
+// 2^19: a remainder has 19 digits.
+const REMAINDERS: u32 = 524288;
+
 // What each place alone leaves, the first place first.
 const COLUMNS: [u32; 63] = [
     279464,
@@ -106,9 +109,9 @@ fn place_of(columns: &[u32; 63], remainder: u32, from: usize) -> usize
 
 // The places, at most two, that leave a remainder, given as the number of its 19 digits.
 pub fn places_of(remainder: u32) -> Places
-    ensures { λ r. ⌜ answer r ≡ wrongPlaces remainder ⌝ }
+    ensures { λ r. ⌜ answer r ≡ wrongPlaces 2 remainder ⌝ }
 {
-    let low = remainder % 524288;
+    let low = remainder % REMAINDERS;
     if low == 0 {
         return Places::Zero;
     }
