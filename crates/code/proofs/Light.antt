@@ -2,21 +2,21 @@
 --     first k e, others k e     the first k ones of e; the others
 --     light                     the law, for words of at most n + 1 bits
 -- Assumes nothing.
-use mathlib.Core.Path.{_≡_, refl, sym, ap, ap₂, _∙_}
+use mathlib.Core.Path.{_≡_, refl, sym, ap, _∙_}
 use mathlib.Core.List.{List, [], _∷_, _++_}
 use Prim.Native.Nat.{ℕ, zero, suc, _+_, _≤_, _<_}
-use native.Mathlib.Nat.{suc-inj}
 use native.Mathlib.Omega.{arith}
 use lib.Dec.{T}
 use lib.ListN.{length, length-append}
 use Rattle.bits.specs.Bits.{ones}
 use Rattle.bits.specs.Digits.{Below}
+use Rattle.bits.proofs.Bits.{ones-append}
 use Rattle.bits.proofs.Digits.{below-append}
 use Rattle.remainder.specs.Polynomial.{_⊕_, zeros}
 use Rattle.remainder.specs.Remainder.{remainder}
 use Rattle.remainder.proofs.Sum.{cons, ⊕-cancel, length-zeros, below-zeros}
 use Rattle.remainder.proofs.Division.{length-remainder, below-remainder, remainder-⊕, remainder-zero, remainder-more}
-use Rattle.remainder.proofs.Ones.{ones-zeros, ones-append}
+use Rattle.remainder.proofs.Ones.{ones-zeros}
 use Rattle.code.proofs.Table.{tests, apart}
 
 first : ℕ → List ℕ → List ℕ

@@ -9,17 +9,17 @@
 use mathlib.Core.Path.{_≡_, refl, sym, ap, _∙_}
 use mathlib.Core.Logic.{_≢_}
 use mathlib.Core.List.{List, [], _∷_, _++_}
-use Prim.Native.Nat.{ℕ, zero, suc, _+_, _%_, _≤_, _<_}
+use Prim.Native.Nat.{ℕ, suc, _+_, _%_, _≤_, _<_}
 use native.Mathlib.Decide.{decLe}
 use native.Mathlib.Omega.{arith}
-use lib.ListN.{length, replicate}
+use lib.ListN.{length}
 use Rattle.bits.specs.Bits.{ones}
 use Rattle.bits.specs.Digits.{Below}
 use Rattle.bits.proofs.Digits.{below-append}
 use Rattle.remainder.specs.Polynomial.{_⊕_, zeros, times}
 use Rattle.remainder.specs.Remainder.{takeOff, step, divide, remainder, checkBits}
 use Rattle.remainder.proofs.Sum.{length-⊕, below-⊕, ⊕-cancel, below-zeros, length-zeros}
-use Rattle.remainder.proofs.Division.{length-snoc}
+use Rattle.remainder.proofs.Lists.{length-snoc}
 use Rattle.remainder.proofs.Ones.{ones-zeros}
 use Rattle.remainder.proofs.Parity.{even-remainder}
 use Rattle.code.specs.Generators.{power, powers, blockGenerator, scaleGenerator}

@@ -5,9 +5,9 @@
 --     remainder-word        bits that leave remainder zero are a word: the test that a receiver makes
 --     word-⊕                so does the sum of two words
 -- Assumes nothing.
-use mathlib.Core.Path.{_≡_, refl, sym, ap, ap₂, _∙_}
-use mathlib.Core.List.{List, [], _∷_, _++_}
-use Prim.Native.Nat.{ℕ, zero, suc, _+_}
+use mathlib.Core.Path.{_≡_, sym, ap, ap₂, _∙_}
+use mathlib.Core.List.{List, _++_}
+use Prim.Native.Nat.{ℕ, _+_}
 use native.Mathlib.Omega.{arith}
 use lib.ListN.{length, take, drop, length-append, take-append-drop, length-drop}
 use lib.Seq.{take-at, drop-at}
@@ -15,15 +15,10 @@ use Rattle.bits.specs.Digits.{Below}
 use Rattle.bits.proofs.Digits.{below-append, below-take}
 use Rattle.remainder.specs.Polynomial.{_⊕_, zeros}
 use Rattle.remainder.specs.Remainder.{remainder, checkBits}
+use Rattle.remainder.proofs.Lists.{below-drop}
 use Rattle.remainder.proofs.Sum.{⊕-zeros, length-zeros, below-zeros}
 use Rattle.remainder.proofs.Division.{length-check, below-check, remainder-check, check-only, remainder-⊕}
 use Rattle.code.specs.Words.{Word, encode}
-
-below-drop : (n : ℕ) (w : List ℕ) → Below 2 w → Below 2 (drop n w)
-unfolding Below
-below-drop zero w b = b
-below-drop (suc n) [] b = tt
-below-drop (suc n) (x ∷ w) b = below-drop n w (b .1)
 
 module _ (k : ℕ) (g : List ℕ) where
   pub encode-word : (m : List ℕ) → Below 2 m → length m ≡ k → Word k g (encode g m)
@@ -50,7 +45,7 @@ module _ (k : ℕ) (g : List ℕ) where
         sized = h;
         bits = b;
         checked =
-            check-only g (take k w) (drop k w) (below-take 2 k w b) (below-drop k w b) (length-drop k w ∙ omega arith)
+            check-only g (take k w) (drop k w) (below-take 2 k w b) (below-drop 2 k w b) (length-drop k w ∙ omega arith)
             (ap (remainder g) (take-append-drop k w) ∙ z);
       }
 

@@ -4,17 +4,17 @@
 --     answered-within           the places of an answer are among the 63, and in order
 --     answered-reading          THE READING that it makes
 -- Assumes nothing.
-use mathlib.Core.Path.{_≡_, refl, sym, ap, ap₂, _∙_, subst}
+use mathlib.Core.Path.{_≡_, refl, sym, ap, _∙_, subst}
 use mathlib.Core.List.{List, [], _∷_}
 use mathlib.Core.Option.{Option, none, some}
-use Prim.Native.Nat.{ℕ, zero, suc, _+_, _%_, _≤_, _<_}
-use native.Mathlib.Nat.{zero-add, suc-inj, suc-ne-zero, not-suc-le-zero, le-of-suc-le-suc, mod-eq-of-lt}
+use Prim.Native.Nat.{ℕ, zero, suc, _<_}
+use native.Mathlib.Nat.{zero-add, suc-inj, suc-ne-zero, not-suc-le-zero, le-of-suc-le-suc}
 use native.Mathlib.Omega.{arith}
-use lib.ListN.{length, getD, set}
+use lib.ListN.{length}
 use Rattle.bits.specs.Bits.{ones}
 use Rattle.bits.specs.Digits.{value, digits, Below}
 use Rattle.bits.proofs.Digits.{digits-value}
-use Rattle.remainder.specs.Polynomial.{_⊕_, zeros}
+use Rattle.remainder.specs.Polynomial.{_⊕_}
 use Rattle.remainder.specs.Remainder.{remainder}
 use Rattle.remainder.specs.Columns.{columns}
 use Rattle.remainder.proofs.Sum.{cons, ⊕-zeros}
@@ -23,12 +23,13 @@ use Rattle.remainder.proofs.Ones.{ones-zeros}
 use Rattle.remainder.proofs.Columns.{length-columns}
 use Rattle.code.specs.Generators.{blockGenerator}
 use Rattle.code.proofs.Smallest.{block-size}
-use Rattle.reading.specs.Reading.{Reading, clean, mended, bad, turned}
-use Rattle.reading.specs.Search.{seek, found, reading}
+use Rattle.reading.specs.Reading.{mended, turned}
+use Rattle.reading.specs.Search.{seek, reading}
 use Rattle.reading.specs.Wrong.{placesFrom, placesIn, wrongPlaces, answer, turn, readAs, Within}
 use Rattle.reading.specs.declared.Places.{Places}
 use Rattle.reading.specs.declared.Places.the-variants.{Zero, One, Two, Nowhere}
 use Rattle.reading.proofs.Seek.{Fits, Good, seek-good}
+use Rattle.reading.proofs.Fixed.{sought-fits, fits-sought, reading-turned, reading-bad}
 use Rattle.reading.proofs.Few.{at, pair, ones-at, ones-pair, places-zeros, places-at, places-pair, Few, zero-ones, one-one, two-ones, few}
 
 -- ---- turning places
@@ -105,20 +106,21 @@ module _ (s : List ℕ) where
   found-few : (m : List ℕ) → Fits 2 (columns blockGenerator 63) s m → Few 63 m
   found-few m f = few 63 m (f .sized ∙ length-columns blockGenerator 63) (f .bits) (f .few)
 
+  told : (p : Places) (m : List ℕ) (h : Fits 2 (columns blockGenerator 63) s m) → answer p ≡ some (placesFrom 0 m) → p ≡ masked m (found-few m h)
+  told p m h e = answer-inj p (masked m (found-few m h)) (e ∙ sym (masked-places m (found-few m h)))
+
   within : (p : Places) (o : Option (List ℕ)) → Good 2 (columns blockGenerator 63) s o → answer p ≡ placesIn o → Within p
   unfolding Good placesIn Within
   within p none h e = subst Within (sym (nowhere p e)) tt
-  within p (some m) h e =
-      let f : Few 63 m = found-few m h in
-      subst Within (sym (answer-inj p (masked m f) (e ∙ sym (masked-places m f)))) (masked-within m f)
+  within p (some m) h e = subst Within (sym (told p m h e)) (masked-within m (found-few m h))
 
-  read : (w : List ℕ) → length w ≡ 63 → Below 2 w → (p : Places) (o : Option (List ℕ)) → Good 2 (columns blockGenerator 63) s o → answer p ≡ placesIn o
-      → found w o ≡ readAs w p
-  unfolding Good placesIn found readAs
-  read w l b p none h e = ap (readAs w) (sym (nowhere p e))
-  read w l b p (some m) h e =
-      let f : Few 63 m = found-few m h in
-      masked-reads w l b m f ∙ ap (readAs w) (sym (answer-inj p (masked m f) (e ∙ sym (masked-places m f))))
+read : (w : List ℕ) → length w ≡ 63 → Below 2 w → (p : Places) (o : Option (List ℕ)) → Good 2 (columns blockGenerator 63) (remainder blockGenerator w) o
+    → answer p ≡ placesIn o → reading 2 w ≡ readAs w p
+unfolding Good placesIn readAs
+read w l b p none h e = reading-bad 2 w (omega arith) l b (λ m q. h m (sought-fits 2 w m q)) ∙ ap (readAs w) (sym (nowhere p e))
+read w l b p (some m) h e =
+    reading-turned 2 w (omega arith) l b m (fits-sought 2 w m h) ∙ masked-reads w l b m (found-few (remainder blockGenerator w) m h)
+    ∙ ap (readAs w) (sym (told (remainder blockGenerator w) p m h e))
 
 pub answered-within : (r : ℕ) (p : Places) → answer p ≡ wrongPlaces 2 r → Within p
 unfolding wrongPlaces
@@ -127,10 +129,10 @@ answered-within r p e =
 
 pub answered-reading : (w : List ℕ) (r : ℕ) (p : Places) → length w ≡ 63 → Below 2 w → r ≡ value 2 (remainder blockGenerator w) → answer p ≡ wrongPlaces 2 r
     → reading 2 w ≡ readAs w p
-unfolding reading wrongPlaces
+unfolding wrongPlaces
 answered-reading w r p h b e a =
-    ap (λ (s : List ℕ). found w (seek 2 (columns blockGenerator 63) s)) (sym same)
-    ∙ read (digits 2 19 r) w h b p (seek 2 (columns blockGenerator 63) (digits 2 19 r)) (seek-good 2 (columns blockGenerator 63) (digits 2 19 r)) a
+    read w h b p (seek 2 (columns blockGenerator 63) (remainder blockGenerator w)) (seek-good 2 (columns blockGenerator 63) (remainder blockGenerator w))
+    (a ∙ ap (λ (s : List ℕ). placesIn (seek 2 (columns blockGenerator 63) s)) same)
   where
     same : digits 2 19 r ≡ remainder blockGenerator w
     same =

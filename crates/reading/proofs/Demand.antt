@@ -4,8 +4,8 @@
 --     wide              at radius 3: up to three come back, and four are marked bad
 -- Assumes nothing.
 use mathlib.Core.Path.{_≡_, refl, sym, ap, _∙_, subst}
-use mathlib.Core.List.{List, [], _∷_}
-use Prim.Native.Nat.{ℕ, zero, suc, _+_, _≤_, _<_}
+use mathlib.Core.List.{List}
+use Prim.Native.Nat.{ℕ, zero, suc, _≤_, _<_}
 use native.Mathlib.Decide.{decLe}
 use native.Mathlib.Omega.{arith}
 use lib.ListN.{length, take}
@@ -19,7 +19,7 @@ use Rattle.code.specs.Words.{CodeWord, distance}
 use Rattle.code.proofs.Words.{encode-word, take-encode}
 use Rattle.code.proofs.Distance.{distance-comm, distance-changed, distance-triangle}
 use Rattle.code.proofs.Smallest.{code-length, code-near}
-use Rattle.reading.specs.Reading.{Reading, clean, mended, bad, Reads, turned, handed, largestRadius}
+use Rattle.reading.specs.Reading.{Reading, bad, Reads, turned, handed, largestRadius}
 use Rattle.reading.specs.Search.{reading}
 use Rattle.reading.specs.Demand.{sent, caught, Demand}
 use Rattle.reading.proofs.Fixed.{reading-is}

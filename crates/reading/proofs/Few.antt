@@ -9,14 +9,14 @@
 use mathlib.Core.Path.{_≡_, refl, sym, ap, _∙_}
 use mathlib.Core.List.{List, [], _∷_}
 use Prim.Native.Nat.{ℕ, zero, suc, _+_, _≤_, _<_}
-use native.Mathlib.Nat.{suc-inj, suc-ne-zero, not-suc-le-zero, le-of-suc-le-suc, add-zero, add-suc}
+use native.Mathlib.Nat.{suc-inj, suc-ne-zero, not-suc-le-zero, le-of-suc-le-suc, add-zero}
 use native.Mathlib.Omega.{arith}
 use lib.ListN.{length, getD, set, length-set}
 use Rattle.bits.specs.Bits.{ones}
 use Rattle.bits.specs.Digits.{Below}
 use Rattle.remainder.specs.Polynomial.{_⊕_, zeros}
 use Rattle.remainder.proofs.Sum.{cons, length-zeros, below-zeros}
-use Rattle.remainder.proofs.Ones.{ones-zeros, none-zeros}
+use Rattle.remainder.proofs.Ones.{ones-zeros}
 use Rattle.remainder.proofs.Columns.{sumAt, sumAt-none}
 use Rattle.reading.specs.Wrong.{placesFrom}
 

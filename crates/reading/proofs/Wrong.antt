@@ -7,7 +7,7 @@
 --                                   the code's answers, by the same equations
 -- Assumes nothing.
 use mathlib.Core.Path.{_≡_, refl, sym, ap, ap₂, _∙_, subst}
-use mathlib.Core.List.{List, [], _∷_, _++_, map}
+use mathlib.Core.List.{List, [], _∷_, _++_}
 use mathlib.Core.Option.{Option, none, some}
 use Prim.Native.Nat.{ℕ, zero, suc, _+_, _-_, _%_, _^_, _≤_, _<_}
 use native.Mathlib.Nat.{zero-add, not-suc-le-zero, le-of-suc-le-suc, mod-lt, mod-eq-of-lt}
@@ -16,16 +16,17 @@ use lib.Bits.{bitXor, xor-lt}
 use lib.Pow.{pow-pos}
 use lib.ListN.{length, getD, length-append, List·getD-map}
 use Rattle.bits.specs.Bits.{ones}
-use Rattle.bits.specs.Digits.{value, digits, Below}
+use Rattle.bits.specs.Digits.{value, digits}
 use Rattle.bits.proofs.Digits.{length-digits, below-digits, value-digits, digits-value, value-below}
 use Rattle.remainder.specs.Polynomial.{_⊕_, zeros}
 use Rattle.remainder.specs.Remainder.{remainder}
 use Rattle.remainder.specs.Columns.{column, columns}
+use Rattle.remainder.proofs.Lists.{digits-zero, digits-low}
 use Rattle.remainder.proofs.Sum.{⊕-self, ⊕-cancel, length-⊕, below-⊕, length-zeros, below-zeros}
 use Rattle.remainder.proofs.Division.{remainder-zeros, remainder-short}
 use Rattle.remainder.proofs.Ones.{ones-zeros, none-zeros}
 use Rattle.remainder.proofs.Columns.{sumAt, length-columns, length-column, below-column}
-use Rattle.remainder.proofs.Register.{digits-zero, digits-low, digits-xor}
+use Rattle.remainder.proofs.Register.{digits-xor}
 use Rattle.code.specs.Generators.{blockGenerator}
 use Rattle.code.proofs.Smallest.{block-size}
 use Rattle.reading.specs.Reading.{largestRadius}
@@ -33,7 +34,7 @@ use Rattle.reading.specs.Search.{seek}
 use Rattle.reading.specs.Wrong.{placesFrom, placesIn, wrongPlaces, answer, columnNumbers}
 use Rattle.reading.specs.declared.Places.the-variants.{Zero, One, Two, Nowhere}
 use Rattle.reading.proofs.Seek.{Fits, Good, seek-good}
-use Rattle.reading.proofs.Fixed.{Places, fit-places, places-unique}
+use Rattle.reading.proofs.Fixed.{Sought, fits-sought, sought-unique}
 use Rattle.reading.proofs.Few.{at, pair, length-at, below-at, ones-at, length-pair, below-pair, ones-pair, sumAt-zeros, sumAt-at, sumAt-pair, places-zeros, places-at, places-pair, Few, zero-ones, one-one, two-ones, few}
 
 abbrev g : List ℕ
@@ -60,11 +61,11 @@ module _ (radius : ℕ) (small : radius ≤ largestRadius) (r : ℕ) where
       remainder-zeros g 44 (digits 2 19 r)
       ∙ remainder-short g (digits 2 19 r) (below-digits 2 19 r (omega arith)) (length-digits 2 19 r ∙ sym block-size)
 
-  as-places : (m : List ℕ) → Fitting radius r m → Places radius word m
-  as-places m f = fit-places radius word m (subst (λ (s : List ℕ). Fits radius cs s m) (sym word-leaves) f)
+  as-sought : (m : List ℕ) → Fitting radius r m → Sought radius word m
+  as-sought m f = fits-sought radius word m (subst (λ (s : List ℕ). Fits radius cs s m) (sym word-leaves) f)
 
   one-fits : (m n : List ℕ) → Fitting radius r m → Fitting radius r n → m ≡ n
-  one-fits m n f h = places-unique radius word m n small word-size (as-places m f) (as-places n h)
+  one-fits m n f h = sought-unique radius word m n small word-size (as-sought m f) (as-sought n h)
 
   found-is : (m : List ℕ) → Fitting radius r m → (o : Option (List ℕ)) → Good radius cs (digits 2 19 r) o → placesIn o ≡ some (placesFrom 0 m)
   unfolding Good placesIn

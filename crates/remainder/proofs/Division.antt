@@ -14,7 +14,7 @@
 -- Assumes nothing.
 use mathlib.Core.Path.{_≡_, refl, sym, ap, ap₂, _∙_}
 use mathlib.Core.List.{List, [], _∷_, _++_, append-assoc, append-nil}
-use Prim.Native.Nat.{ℕ, zero, suc, _+_, _%_, _<_}
+use Prim.Native.Nat.{ℕ, zero, suc, _+_, _%_}
 use native.Mathlib.Nat.{suc-inj, suc-ne-zero}
 use native.Mathlib.Omega.{arith}
 use lib.ListN.{length, length-append}
@@ -22,11 +22,8 @@ use Rattle.bits.specs.Digits.{Below}
 use Rattle.bits.proofs.Digits.{below-append}
 use Rattle.remainder.specs.Polynomial.{_⊕_, zeros, times}
 use Rattle.remainder.specs.Remainder.{takeOff, step, divide, remainder, checkBits}
-use Rattle.remainder.proofs.Sum.{cons, length-⊕, below-⊕, ⊕-assoc, ⊕-comm, ⊕-append, ⊕-zeros, zeros-⊕, ⊕-self, ⊕-cancel, length-zeros, below-zeros, zeros-snoc, length-times, times-zero, ⊕-times}
-
-pub length-snoc : (p : List ℕ) (b : ℕ) → length (p ++ (b ∷ [])) ≡ suc (length p)
-length-snoc [] b = refl
-length-snoc (x ∷ p) b = ap suc (length-snoc p b)
+use Rattle.remainder.proofs.Lists.{length-snoc}
+use Rattle.remainder.proofs.Sum.{length-⊕, below-⊕, ⊕-append, ⊕-zeros, zeros-⊕, ⊕-self, ⊕-cancel, length-zeros, below-zeros, zeros-snoc, length-times, times-zero, ⊕-times}
 
 module _ (g : List ℕ) where
   -- ---- one step

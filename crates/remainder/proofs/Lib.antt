@@ -1,3 +1,4 @@
+pub mod Lists
 pub mod Sum
 pub mod Division
 pub mod Columns

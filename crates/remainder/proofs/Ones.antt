@@ -1,13 +1,13 @@
 -- Laws of the number of ones.
---     ones-zeros, ones-append       none among zeros; of two parts
+--     ones-zeros                    none among zeros
 --     ones-⊕                        a sum has at most as many as its two parts
 --     even-add, even-⊕              and an even number fewer
 --     none-zeros                    bits without a one are zeros
 -- Assumes nothing.
-use mathlib.Core.Path.{_≡_, refl, sym, ap, ap₂, _∙_}
-use mathlib.Core.List.{List, [], _∷_, _++_}
+use mathlib.Core.Path.{_≡_, refl, sym, ap, _∙_}
+use mathlib.Core.List.{List, [], _∷_}
 use Prim.Native.Nat.{ℕ, zero, suc, _+_, _%_, _<_, _≤_}
-use native.Mathlib.Nat.{suc-inj, suc-ne-zero, add-assoc, mod-mod, add-mod, mod-add-mod, add-mod-mod}
+use native.Mathlib.Nat.{suc-inj, suc-ne-zero, mod-mod, add-mod, mod-add-mod, add-mod-mod}
 use native.Mathlib.Omega.{arith}
 use lib.ListN.{length}
 use Rattle.bits.specs.Digits.{Below}
@@ -19,11 +19,6 @@ pub ones-zeros : (n : ℕ) → ones (zeros n) ≡ 0
 unfolding ones
 ones-zeros zero = refl
 ones-zeros (suc n) = omega (arith, ones-zeros n)
-
-pub ones-append : (p q : List ℕ) → ones (p ++ q) ≡ ones p + ones q
-unfolding ones
-ones-append [] q = omega arith
-ones-append (x ∷ p) q = ap (λ (k : ℕ). x % 2 + k) (ones-append p q) ∙ sym (add-assoc (x % 2) (ones p) (ones q))
 
 pub ones-⊕ : (p q : List ℕ) → ones (p ⊕ q) ≤ ones p + ones q
 unfolding _⊕_ ones

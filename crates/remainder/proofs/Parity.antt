@@ -2,19 +2,21 @@
 -- keeps the parity: a word and its remainder both have an even or both an odd number of ones.
 --     even-step, even-divide, even-remainder
 -- Assumes nothing.
-use mathlib.Core.Path.{_≡_, refl, sym, ap, ap₂, _∙_, subst}
+use mathlib.Core.Path.{_≡_, sym, ap, _∙_}
 use mathlib.Core.List.{List, [], _∷_, _++_}
-use Prim.Native.Nat.{ℕ, zero, suc, _+_, _%_, _<_, _≤_}
+use Prim.Native.Nat.{ℕ, zero, suc, _+_, _%_, _<_}
 use native.Mathlib.Nat.{suc-ne-zero, add-comm, mod-add-mod, mod-eq-of-lt}
 use native.Mathlib.Omega.{arith}
-use lib.ListN.{length, length-append}
+use lib.ListN.{length}
 use Rattle.bits.specs.Digits.{Below}
 use Rattle.bits.specs.Bits.{ones}
-use Rattle.remainder.specs.Polynomial.{_⊕_, zeros, times}
+use Rattle.bits.proofs.Bits.{ones-append}
+use Rattle.remainder.specs.Polynomial.{zeros, times}
 use Rattle.remainder.specs.Remainder.{takeOff, step, divide, remainder}
+use Rattle.remainder.proofs.Lists.{length-snoc}
 use Rattle.remainder.proofs.Sum.{length-zeros, below-zeros, length-times, times-zero, times-one}
-use Rattle.remainder.proofs.Division.{length-snoc, length-step, below-step}
-use Rattle.remainder.proofs.Ones.{ones-zeros, ones-append, even-add, even-⊕}
+use Rattle.remainder.proofs.Division.{length-step, below-step}
+use Rattle.remainder.proofs.Ones.{ones-zeros, even-add, even-⊕}
 
 module _ (g : List ℕ) (odd : ones g % 2 ≡ 1) where
   even-times : (x : ℕ) → x < 2 → ones (times x g) % 2 ≡ x

@@ -1,5 +1,4 @@
 -- The register of a division as a number: a step on the number is a step on its binary digits.
---     digits-zero, digits-cons, digits-low    the digits of 0; the highest digit in front; only the low digits count
 --     digits-xor                              the digits of an exclusive or are the sums of the digits
 --     step-odd                                of the bit brought down only the lowest digit counts
 --     size, top                               what a shift gives; the digit that moves out at the top is 0 or 1
@@ -11,41 +10,24 @@
 --     small-remainder                         a remainder's number fits the register
 --     remainder-number, check-number          what the public functions promise, for a generator whose coefficients are known
 -- Assumes nothing.
-use mathlib.Core.Path.{_≡_, refl, sym, ap, ap₂, _∙_, subst}
+use mathlib.Core.Path.{_≡_, refl, sym, ap, ap₂, _∙_}
 use mathlib.Core.List.{List, [], _∷_, _++_}
 use Prim.Native.Nat.{ℕ, zero, suc, _+_, _*_, _/_, _%_, _^_, _<_, _≤_}
-use native.Mathlib.Nat.{mod-eq-of-lt, div-lt-iff-lt-mul, zero-mul, one-mul, mod-add-mod, zero-div}
-use native.Mathlib.Numerals.{add-one, one-add}
+use native.Mathlib.Nat.{mod-eq-of-lt, div-lt-iff-lt-mul, zero-mul, one-mul, mod-add-mod}
+use native.Mathlib.Numerals.{add-one}
 use native.Mathlib.Omega.{arith}
 use borrow.Author.Tests.{le-leb}
 use lib.Bits.{bitXor, xor-shr, xor-mod}
-use lib.Pow.{field, mod-mod-pow, pow-pos, pow-lt}
+use lib.Pow.{pow-pos, pow-lt}
 use lib.ListN.{length, take, getD}
 use lib.Seq.{take-suc, take-all}
 use Rattle.bits.specs.Digits.{value, digits}
-use Rattle.bits.proofs.Digits.{length-digits, digits-append, value-digits, digits-value, value-below}
+use Rattle.bits.proofs.Digits.{length-digits, value-digits, digits-value, value-below}
 use Rattle.remainder.specs.Polynomial.{_⊕_, zeros, times}
 use Rattle.remainder.specs.Remainder.{takeOff, step, divide, remainder, checkBits, remainderNumber, checkNumber}
-use Rattle.remainder.proofs.Sum.{cons, ⊕-append, zeros-snoc, times-zero, times-one}
+use Rattle.remainder.proofs.Lists.{digits-zero, digits-cons, digits-low}
+use Rattle.remainder.proofs.Sum.{cons, ⊕-append, times-zero, times-one}
 use Rattle.remainder.proofs.Division.{divide-append, length-remainder, below-remainder, length-check, below-check}
-
-pub digits-zero : (n : ℕ) → digits 2 n 0 ≡ zeros n
-unfolding digits
-digits-zero zero = refl
-digits-zero (suc n) = ap (λ (l : List ℕ). l ++ (0 ∷ [])) (digits-zero n) ∙ zeros-snoc n
-
-digits-cons : (n x : ℕ) → digits 2 (suc n) x ≡ x / 2 ^ n % 2 ∷ digits 2 n x
-unfolding digits
-digits-cons n x = ap (λ (k : ℕ). digits 2 k x) (sym (one-add n)) ∙ digits-append 2 1 n x
-
-pub digits-low : (n x : ℕ) → digits 2 n (x % 2 ^ n) ≡ digits 2 n x
-unfolding digits
-digits-low zero x = refl
-digits-low (suc n) x =
-    ap₂ (λ (h l : ℕ). digits 2 n h ++ (l ∷ []))
-    (ap (λ (k : ℕ). x % 2 ^ k / 2) (sym (add-one n)) ∙ field x n 1)
-    (ap (λ (k : ℕ). x % 2 ^ k % 2) (sym (add-one n)) ∙ mod-mod-pow x n 1)
-    ∙ ap (λ (l : List ℕ). l ++ (x % 2 ∷ [])) (digits-low n (x / 2))
 
 xor-bit : (x y : ℕ) → x < 2 → y < 2 → bitXor x y ≡ (x + y) % 2
 xor-bit zero zero h k = refl

@@ -13,7 +13,7 @@ use mathlib.Core.List.{List, [], _∷_, _++_}
 use Prim.Native.Nat.{ℕ, zero, suc, _+_, _*_, _/_, _%_, _<_}
 use native.Mathlib.Nat.{suc-inj, suc-ne-zero, zero-mul, one-mul, mul-assoc, add-mul, mod-add-div, add-mul-mod-self-left, mod-add-mod, add-mod-mod, add-mod}
 use native.Mathlib.Omega.{arith}
-use lib.ListN.{length, length-replicate, length-append}
+use lib.ListN.{length, length-replicate}
 use Rattle.bits.specs.Digits.{Below}
 use Rattle.remainder.specs.Polynomial.{_⊕_, zeros, times}
 

@@ -1,15 +1,14 @@
 -- `reading::places_of` meets its contract. The loop's invariant: no place passed makes a pair with one behind it. Assumes nothing.
-use mathlib.Core.Path.{_≡_, sym, ap, _∙_}
+use mathlib.Core.Path.{_≡_, ap, _∙_}
 use mathlib.Core.Logic.{⊎-elim}
-use mathlib.Core.List.{List}
-use Prim.Native.Nat.{ℕ, _-_, _+_, _≤_, _<_}
+use Prim.Native.Nat.{ℕ, _-_, _≤_, _<_}
 use native.Mathlib.Nat.{eq-or-lt-of-le}
 use native.Mathlib.Omega.{arith}
 use lib.Bits.{bitXor}
 use lib.ListN.{getD}
 use borrow.Author.Needs.{needs}
-use Rattle.reading.specs.Wrong.{columnNumbers, First}
-use Rattle.reading.proofs.Wrong.{t, low, answer-zero, answer-one, answer-two, answer-none}
+use Rattle.reading.specs.Wrong.{columnNumbers}
+use Rattle.reading.proofs.Wrong.{low, answer-zero, answer-one, answer-two, answer-none}
 use Rattle.reading.proofs.places_of.Statement.{statement}
 use Rattle.reading.proofs.places_of.Tie as tie
 

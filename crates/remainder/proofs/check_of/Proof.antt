@@ -1,14 +1,12 @@
 -- `remainder::check_of` meets its contract. The loop's invariant: the word's remainder is divided on, with a zero for each turn. Assumes nothing.
-use mathlib.Core.Path.{_≡_, refl, ap, sym, _∙_}
-use mathlib.Core.List.{List, []}
-use Prim.Native.Nat.{ℕ, _+_, _-_, _^_, _<_, _≤_}
-use native.Mathlib.Omega.{arith}
+use mathlib.Core.Path.{_≡_, refl, ap, _∙_}
+use Prim.Native.Nat.{_-_, _^_, _<_, _≤_}
 use lib.ListN.{length, take, getD, getD-replicate}
 use borrow.Author.Needs.{needs}
 use borrow.Author.Tests.{le-leb, lt-leb}
 use Rattle.bits.specs.Digits.{value, digits}
 use Rattle.remainder.specs.Polynomial.{zeros}
-use Rattle.remainder.specs.Remainder.{step, divide, remainder, checkNumber}
+use Rattle.remainder.specs.Remainder.{divide, remainder, checkNumber}
 use Rattle.remainder.proofs.Sum.{length-zeros}
 use Rattle.remainder.proofs.Register.{turn, ended, resumed, behind, small-remainder, remainder-number}
 use Rattle.remainder.proofs.check_of.Statement.{statement}

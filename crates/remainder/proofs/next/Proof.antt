@@ -1,12 +1,11 @@
 -- `remainder::next` meets its contract: `step-digits` at the degree. Assumes nothing.
-use mathlib.Core.Path.{_≡_, refl, ap, sym, _∙_}
-use Prim.Native.Nat.{ℕ, _+_, _*_, _/_, _%_, _^_, _<_, _≤_}
-use native.Mathlib.Nat.{mod-lt, one-mul, mod-eq-of-lt, mul-le-mul-right}
+use mathlib.Core.Path.{_∙_}
+use Prim.Native.Nat.{_+_, _*_, _/_, _%_, _^_}
+use native.Mathlib.Nat.{mod-lt, mul-le-mul-right}
 use native.Mathlib.Omega.{arith}
-use lib.Pow.{pow-pos, pow-mono, pow-lt}
+use lib.Pow.{pow-pos, pow-mono}
 use lib.Bits.{bitXor}
 use Rattle.bits.specs.Digits.{digits}
-use Rattle.remainder.specs.Remainder.{step}
 use Rattle.remainder.proofs.Register.{step-digits, step-odd, top, size}
 use borrow.Author.Needs.{needs}
 use Rattle.remainder.proofs.next.Statement.{statement}

@@ -1,20 +1,15 @@
 -- `remainder::remainder_of` meets its contract. The loop's invariant: the register's digits are the division so far. Assumes nothing.
-use mathlib.Core.Path.{_≡_, refl, ap, sym, _∙_}
-use mathlib.Core.List.{List, []}
-use Prim.Native.Nat.{ℕ, _+_, _-_, _^_, _<_, _≤_}
-use native.Mathlib.Nat.{mod-eq-of-lt}
-use native.Mathlib.Numerals.{add-one}
-use native.Mathlib.Omega.{arith}
+use mathlib.Core.Path.{_≡_, ap, _∙_}
+use Prim.Native.Nat.{_-_, _^_, _<_, _≤_}
 use lib.Pow.{pow-pos}
-use lib.ListN.{length, take, getD}
-use lib.Seq.{take-suc, take-all}
+use lib.ListN.{length, take}
 use borrow.Author.Needs.{needs}
 use borrow.Author.Tests.{le-leb, lt-leb}
 use Rattle.bits.specs.Digits.{value, digits}
-use Rattle.bits.proofs.Digits.{value-digits, length-digits}
 use Rattle.remainder.specs.Polynomial.{zeros}
-use Rattle.remainder.specs.Remainder.{divide, remainder, remainderNumber}
-use Rattle.remainder.proofs.Register.{digits-zero, turn, ended, whole}
+use Rattle.remainder.specs.Remainder.{divide, remainderNumber}
+use Rattle.remainder.proofs.Lists.{digits-zero}
+use Rattle.remainder.proofs.Register.{turn, ended, whole}
 use Rattle.remainder.proofs.remainder_of.Statement.{statement}
 use Rattle.remainder.proofs.remainder_of.Tie as tie
 
