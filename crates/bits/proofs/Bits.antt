@@ -4,17 +4,19 @@
 --     length-eightAt, eightAt-getD, below-eightAt    eight bits, which stands where, each is one
 --     length-bitsOf, length-bytesOf    how many there are
 --     bytes-back, bits-back        bytes made of bytes' bits are those bytes; bits of the bytes that bits make are those bits
+--     ones-append, ones-digits     ones of two rows of bits; of a number's digits, taken off from the lowest
 -- Assumes nothing.
 use mathlib.Core.Path.{_≡_, refl, sym, ap, ap₂, _∙_, subst}
 use mathlib.Core.List.{List, [], _∷_, _++_}
 use Prim.Native.Nat.{ℕ, zero, suc, _+_, _-_, _*_, _/_, _%_, _^_, _<_, _≤_}
 use native.Mathlib.Nat.{mod-lt, mod-eq-of-lt}
+use native.Mathlib.Numerals.{add-one}
 use native.Mathlib.Omega.{arith}
 use lib.ListN.{length, getD, List·getD-eq-default}
 use lib.Seq.{ext-getD}
 use Rattle.bits.specs.Table.{tabulate}
 use Rattle.bits.specs.Digits.{value, digits, Below}
-use Rattle.bits.specs.Bits.{bitAt, bitsOf, eightAt, byteAt, bytesOf}
+use Rattle.bits.specs.Bits.{bitAt, bitsOf, eightAt, byteAt, bytesOf, ones}
 use Rattle.bits.proofs.Table.{length-tab, getD-tab, tab-ext, tab-getD}
 use Rattle.bits.proofs.Digits.{length-digits, getD-digits, below-digits, below-getD, below-tab, value-digits, digits-value}
 
@@ -87,3 +89,13 @@ bits-back bits n h e =
     rw (getD-tab (length bits / 8) (λ i. byteAt bits (8 * i)) i 0 within, digits-value 2 8 (eightAt bits (8 * i)) (below-eightAt bits (8 * i)) (length-eightAt bits (8 * i)), eightAt-getD bits (8 * i) (k % 8) j, whole)
     (mod-eq-of-lt (below-getD 2 bits k h l)))
     ∙ sym (tab-getD (length bits) bits 0 refl)
+
+-- ---- ones
+pub ones-append : (xs ys : List ℕ) → ones (xs ++ ys) ≡ ones xs + ones ys
+unfolding ones
+ones-append [] ys = omega arith
+ones-append (x ∷ xs) ys = rw (ones-append xs ys) (omega arith)
+
+pub ones-digits : (n x : ℕ) → ones (digits 2 (n + 1) x) ≡ ones (digits 2 n (x / 2)) + x % 2
+unfolding ones digits
+ones-digits n x = rw (add-one n, ones-append (digits 2 n (x / 2)) (x % 2 ∷ [])) (omega arith)

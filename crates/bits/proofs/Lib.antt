@@ -1,4 +1,5 @@
 pub mod Table
 pub mod Digits
 pub mod Bits
+pub mod Answer
 pub mod Unique

@@ -7,8 +7,12 @@
 --     filled f n xs             f below n, and xs from there on
 --     filled-set, filled-part   one store; a part that was lent and came back
 --     filled-zero, filled-all   before the first store; after the last
+--     both-left, both-right     two tests that pass together
+--     every-at                  what a test over a whole list says of each element: a table's rule is one such test
+--     getD-within               within a list the default does not matter
 -- Assumes nothing.
 use mathlib.Core.Path.{_≡_, refl, sym, ap, ap₂, _∙_, subst}
+use mathlib.Core.Bool.{Bool, true, false, _&&_}
 use mathlib.Core.Logic.{⊎-elim}
 use mathlib.Core.List.{List, [], _∷_, _++_, append-assoc, append-nil}
 use Prim.Native.Nat.{ℕ, zero, suc, _+_, _<_, _≤_}
@@ -17,7 +21,8 @@ use native.Mathlib.Numerals.{add-one}
 use native.Mathlib.Omega.{arith}
 use lib.ListN.{length, getD, take, drop, set, length-append, length-drop, drop-of-length-le, List·getD-append}
 use lib.Seq.{take-suc-set, take-suc, take-all, getD-at, ext-getD, drop-cons, drop-drop, take-at, drop-at, set-at, append-snoc}
-use Rattle.bits.specs.Table.{tabulate}
+use lib.Dec.{T}
+use Rattle.bits.specs.Table.{tabulate, every}
 
 module _ {A : Type 0} where
   pub length-tab : (n : ℕ) (f : ℕ → A) → length (tabulate n f) ≡ n
@@ -94,3 +99,24 @@ module _ {A : Type 0} where
       → take a (filled f a xs) ++ (ys ++ drop k (drop a (filled f a xs))) ≡ filled f (a + k) xs
   filled-part f a k xs ys h e =
       rw (take-at (tabulate a f) (drop a xs) a (length-tab a f), drop-at (tabulate a f) (drop a xs) a (length-tab a f), e, drop-drop, tab-add, append-assoc)
+
+-- ---- a table's rule
+pub both-left : (a b : Bool) → T (a && b) → T a
+both-left true b t = tt
+both-left false b t = t
+
+pub both-right : (a b : Bool) → T (a && b) → T b
+both-right true b t = t
+both-right false b t = absurd t
+
+module _ {A : Type 0} where
+  pub every-at : (f : A → Bool) (l : List A) (k : ℕ) (d : A) → T (every f l) → k < length l → T (f (getD l k d))
+  unfolding every
+  every-at f [] k d t h = absurd (not-suc-le-zero h)
+  every-at f (x ∷ l) zero d t h = both-left (f x) (every f l) t
+  every-at f (x ∷ l) (suc k) d t h = every-at f l k d (both-right (f x) (every f l) t) (le-of-suc-le-suc h)
+
+  pub getD-within : (l : List A) (k : ℕ) (d e : A) → k < length l → getD l k d ≡ getD l k e
+  getD-within [] k d e h = absurd (not-suc-le-zero h)
+  getD-within (x ∷ l) zero d e h = refl
+  getD-within (x ∷ l) (suc k) d e h = getD-within l k d e (le-of-suc-le-suc h)

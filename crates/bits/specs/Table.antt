@@ -1,9 +1,15 @@
 -- Lists given by a rule.
 --     tabulate n f      f 0, f 1, .., f (n - 1)
+--     every f l         whether a test passes at each element of a list
 -- A table grows at its end, as a loop that fills a list from the front does.
+use mathlib.Core.Bool.{Bool, true, _&&_}
 use mathlib.Core.List.{List, [], _∷_, _++_}
 use Prim.Native.Nat.{ℕ, zero, suc}
 
 unfoldable pub tabulate : {A : Type 0} → ℕ → (ℕ → A) → List A
 tabulate zero f = []
 tabulate (suc n) f = tabulate n f ++ (f n ∷ [])
+
+unfoldable pub every : {A : Type 0} → (A → Bool) → List A → Bool
+every f [] = true
+every f (x ∷ l) = f x && every f l
