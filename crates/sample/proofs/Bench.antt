@@ -6,8 +6,9 @@ use mathlib.Core.Path.{_≡_, refl}
 use mathlib.Core.List.{List, [], _∷_, map}
 use lib.ListN.{replicate}
 use lib.IntN.{ℤ, pos, negsuc}
+use Rattle.bits.specs.Table.{every}
 use Rattle.sample.specs.Sample.{fits, codeOf, sampleOf}
-use Rattle.sample.specs.Factor.{allFit, largest, factorOf}
+use Rattle.sample.specs.Factor.{largest, factorOf}
 
 pub samples-there : codeOf (negsuc 255) 7 ∷ codeOf (pos 255) 7 ∷ codeOf (negsuc 0) 0 ∷ [] ≡ negsuc 8191 ∷ pos 8160 ∷ negsuc 0 ∷ []
 unfolding codeOf
@@ -21,5 +22,5 @@ abbrev withOne : ℤ → List ℤ
 withOne x = x ∷ replicate 63 (pos 0)
 
 pub factors : map (λ x. factorOf (withOne x)) (pos 256 ∷ negsuc 255 ∷ negsuc 256 ∷ pos 16383 ∷ pos 16384 ∷ []) ≡ 6 ∷ 7 ∷ 6 ∷ 1 ∷ 0 ∷ []
-unfolding factorOf largest allFit fits
+unfolding factorOf largest every fits
 factors = refl

@@ -20,9 +20,10 @@ use lib.ListN.{length, getD, take}
 use lib.Seq.{take-suc}
 use lib.IntN.{ℤ, pos}
 use borrow.Author.Tests.{ltb-true, ltb-false, lt-ltb}
+use Rattle.bits.specs.Table.{every}
 use Rattle.sample.specs.Sample.{fits}
 use Rattle.sample.specs.Factor.{allFit, largest, factorOf}
-use Rattle.sample.proofs.Signed.{by-test}
+use Rattle.sample.proofs.Tests.{by-test, both-true}
 
 -- ---- the largest with a test
 module _ (P : ℕ → Bool) where
@@ -64,7 +65,7 @@ largest-ext (suc n) P Q e = rw (e (suc n), largest-ext n P Q e)
 
 -- ---- every sample fits
 pub all-snoc : (s : ℕ) (xs : List ℤ) (x : ℤ) → allFit s (xs ++ (x ∷ [])) ≡ (allFit s xs && fits s x)
-unfolding allFit
+unfolding every
 all-snoc s [] x = and-true (fits s x)
 all-snoc s (y ∷ xs) x = rw (all-snoc s xs x) (sym (and-assoc (fits s y) (allFit s xs) (fits s x)))
 
@@ -78,22 +79,14 @@ test-max m n h l =
     (λ t. let k : m < h = omega (arith, ltb-true n h t) in rw (lt-ltb m h k))
     (λ t. rw t (and-false (ltb m h)))
 
-and-left : (a b : Bool) → (a && b) ≡ true → a ≡ true
-and-left true b t = refl
-and-left false b t = t
-
-and-right : (a b : Bool) → (a && b) ≡ true → b ≡ true
-and-right true b t = t
-and-right false b t = absurd (true≢false (sym t))
-
 pub all-each : (s : ℕ) (xs : List ℤ) (i : ℕ) → allFit s xs ≡ true → i < length xs → fits s (getD xs i (pos 0)) ≡ true
-unfolding allFit
+unfolding every
 all-each s [] i t l = absurd (not-suc-le-zero l)
-all-each s (x ∷ xs) zero t l = and-left (fits s x) (allFit s xs) t
-all-each s (x ∷ xs) (suc i) t l = all-each s xs i (and-right (fits s x) (allFit s xs) t) (le-of-suc-le-suc l)
+all-each s (x ∷ xs) zero t l = both-true (fits s x) (allFit s xs) t .0
+all-each s (x ∷ xs) (suc i) t l = all-each s xs i (both-true (fits s x) (allFit s xs) t .1) (le-of-suc-le-suc l)
 
 pub each-all : (s : ℕ) (xs : List ℤ) → ((i : ℕ) → i < length xs → fits s (getD xs i (pos 0)) ≡ true) → allFit s xs ≡ true
-unfolding allFit
+unfolding every
 each-all s [] h = refl
 each-all s (x ∷ xs) h = rw (h 0 (omega arith)) (each-all s xs (λ i l. h (suc i) (suc-le-suc l)))
 

@@ -1,3 +1,4 @@
+pub mod Tests
 pub mod Signed
 pub mod Sample
 pub mod Factor

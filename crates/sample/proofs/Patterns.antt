@@ -23,7 +23,8 @@ use Rattle.bits.proofs.Digits.{length-digits, below-digits, getD-digits, value-
 use Rattle.sample.specs.Signed.{modZ}
 use Rattle.sample.specs.Sample.{isCode}
 use Rattle.sample.specs.Pattern.{signedOf, patternOf, codeBits, bitsCode}
-use Rattle.sample.proofs.Signed.{by-test, sub-neg}
+use Rattle.sample.proofs.Tests.{by-test}
+use Rattle.sample.proofs.Signed.{sub-neg}
 use Rattle.sample.proofs.Sample.{code-mag}
 
 module _ (h : ℕ) (some : 0 < h) where

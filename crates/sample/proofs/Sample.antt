@@ -23,7 +23,8 @@ use mir.ValLaws.{toZ-pos}
 use borrow.Author.Tests.{ltb-true, lt-ltb, leb-true, leb-false, le-leb}
 use Rattle.sample.specs.Signed.{modZ}
 use Rattle.sample.specs.Sample.{fits, isCode, codeOf, sampleOf}
-use Rattle.sample.proofs.Signed.{by-test, between-mag, mag-mul, mag-shr-lt, shr-mul, mul-shr, shift-up, shift-down}
+use Rattle.sample.proofs.Tests.{by-test}
+use Rattle.sample.proofs.Signed.{between-mag, mag-mul, mag-shr-lt, shr-mul, mul-shr, shift-up, shift-down}
 
 pub pow-split : (m n : ℕ) → n ≤ m → 2 ^ m ≡ 2 ^ (m - n) * 2 ^ n
 pow-split m n h = let e : m ≡ m - n + n = omega arith in ap (λ (k : ℕ). 2 ^ k) e ∙ pow-add 2 (m - n) n

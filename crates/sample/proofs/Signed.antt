@@ -1,5 +1,4 @@
 -- Laws of numbers with a sign, for any crate.
---     by-test                      a proof by cases on a test
 --     sub-pos, sub-neg, negsuc-sub     how a difference computes
 --     minus-one, not-negative      a number with its sign, by `mag`
 --     between-mag                  from -h to h - 1: `mag` is less than h
@@ -9,7 +8,7 @@
 --     shift-up, shift-down         a product divided by what divides its factor, or by a multiple of it
 -- Assumes nothing.
 use mathlib.Core.Path.{_≡_, refl, sym, ap, _∙_}
-use mathlib.Core.Bool.{Bool, true, false, true≢false}
+use mathlib.Core.Bool.{true, false, true≢false}
 use Prim.Native.Nat.{ℕ, zero, suc, _+_, _-_, _*_, _/_, _%_, _<_, _≤_}
 use native.Mathlib.Nat.{not-suc-le-zero, suc-mul, add-suc, add-mul, add-assoc, mul-assoc, mul-div-cancel, div-div-eq-div-mul, div-lt-iff-lt-mul, div-add-mod', mod-lt, mul-lt-mul-of-pos-right}
 use native.Mathlib.Omega.{arith}
@@ -19,10 +18,7 @@ use lib.IntN.{ℤ, pos, negsuc, negℤ, _-ℤ_, _*ℤ_}
 use lib.Signed.{mag, ltZ, shrZ}
 use borrow.Author.Tests.{ltb-true, ltb-false, lt-ltb, le-ltb, le-leb, lt-leb}
 use Rattle.sample.specs.Signed.{between, modZ}
-
-pub by-test : {P : Type 0} (b : Bool) → (b ≡ true → P) → (b ≡ false → P) → P
-by-test true h k = h refl
-by-test false h k = k refl
+use Rattle.sample.proofs.Tests.{by-test}
 
 pub sub-pos : (a b : ℕ) → b ≤ a → pos a -ℤ pos b ≡ pos (a - b)
 sub-pos a zero h = ap pos (omega arith)

@@ -5,19 +5,19 @@
 --     factorAnswer xs   with the refusal: 1 for another number of samples than 64
 --     chosen r          what the code's answer says in document 01's terms
 use Prim.Native.Nat.{ℕ, zero, suc}
-use mathlib.Core.Bool.{Bool, true, cond, _&&_}
+use mathlib.Core.Bool.{Bool, cond}
 use mathlib.Core.List.{List, [], _∷_}
 use lib.Dec.{eqb}
 use lib.ListN.{length}
 use lib.IntN.{ℤ}
+use Rattle.bits.specs.Table.{every}
 use Rattle.bits.specs.Answer.{Answer, accepted, refused}
 use Rattle.sample.specs.Sample.{fits}
 use Rattle.sample.specs.declared.Chosen.{Chosen}
 use Rattle.sample.specs.declared.Chosen.the-variants as C
 
-unfoldable pub allFit : ℕ → List ℤ → Bool
-allFit s [] = true
-allFit s (x ∷ xs) = fits s x && allFit s xs
+abbrev pub allFit : ℕ → List ℤ → Bool
+allFit s xs = every (fits s) xs
 
 unfoldable pub largest : ℕ → (ℕ → Bool) → ℕ
 largest zero P = 0

@@ -14,6 +14,7 @@ use mir.Syntax.{w16}
 use mir.ValLaws.{toZ-ofZ}
 use borrow.Author.Needs.{needs}
 use borrow.Author.Tests.{lt-ltb}
+use Rattle.bits.specs.Table.{every}
 use Rattle.sample.specs.Factor.{allFit}
 use Rattle.sample.proofs.Sample.{fits-mag}
 use Rattle.sample.proofs.Factor.{all-take, test-max}
@@ -27,7 +28,7 @@ abbrev μ-loop : tie.MeasureT-loop
 μ-loop samples most₀ i₀ most i = length samples - i
 
 loop-holds : tie.Need-loop-holds Inv-loop μ-loop
-unfolding allFit
+unfolding every
 loop-holds c = (search needs, λ s. sym (lt-ltb 0 (2 ^ (15 - s)) (pow-pos (15 - s))))
 
 mul-reach : tie.Need-mul-reach Inv-loop μ-loop
