@@ -3,27 +3,21 @@
 --     factor-fits                  every sample fits it, where every sample has 16 bits
 --     factor-largest               no larger one up to 7 fits them all
 --     factor-only                  nothing else is such a number
---     all-each, each-all           all fit exactly where each does
 --     largest-..                   the same of any test; then what a search from above finds at each step
---     all-take, test-max           what one sample more, and a larger bound, change
+--     test-max                     of two bounds the larger decides
 -- Assumes nothing.
 use mathlib.Core.Path.{_≡_, refl, sym, _∙_}
 use mathlib.Core.Logic.{⊎-elim}
-use mathlib.Core.Bool.{Bool, true, false, true≢false, _&&_, and-true, and-false, and-assoc}
-use mathlib.Core.List.{List, [], _∷_, _++_}
-use Prim.Native.Nat.{ℕ, zero, suc, _+_, _-_, _<_, _≤_, zero-le, suc-le-suc}
+use mathlib.Core.Bool.{Bool, true, false, true≢false, _&&_, and-false}
+use mathlib.Core.List.{List}
+use Prim.Native.Nat.{ℕ, zero, suc, _-_, _<_, _≤_, zero-le}
 use native.Mathlib.Nat.{not-suc-le-zero, le-of-suc-le-suc, eq-or-lt-of-le, le-antisymm, lt-irrefl, lt-of-lt-of-le, lt-of-le-of-lt}
-use native.Mathlib.Numerals.{add-one}
 use native.Mathlib.Omega.{arith}
 use lib.Dec.{ltb}
-use lib.ListN.{length, getD, take}
-use lib.Seq.{take-suc}
-use lib.IntN.{ℤ, pos}
+use lib.IntN.{ℤ}
 use borrow.Author.Tests.{ltb-true, ltb-false, lt-ltb}
-use Rattle.bits.specs.Table.{every}
-use Rattle.sample.specs.Sample.{fits}
 use Rattle.sample.specs.Factor.{allFit, largest, factorOf}
-use Rattle.sample.proofs.Tests.{by-test, both-true}
+use Rattle.sample.proofs.Tests.{by-test}
 
 -- ---- the largest with a test
 module _ (P : ℕ → Bool) where
@@ -63,32 +57,11 @@ unfolding largest
 largest-ext zero P Q e = refl
 largest-ext (suc n) P Q e = rw (e (suc n), largest-ext n P Q e)
 
--- ---- every sample fits
-pub all-snoc : (s : ℕ) (xs : List ℤ) (x : ℤ) → allFit s (xs ++ (x ∷ [])) ≡ (allFit s xs && fits s x)
-unfolding every
-all-snoc s [] x = and-true (fits s x)
-all-snoc s (y ∷ xs) x = rw (all-snoc s xs x) (sym (and-assoc (fits s y) (allFit s xs) (fits s x)))
-
-pub all-take : (s : ℕ) (xs : List ℤ) (i : ℕ) → i < length xs → allFit s (take (i + 1) xs) ≡ (allFit s (take i xs) && fits s (getD xs i (pos 0)))
-all-take s xs i l = rw (add-one, take-suc xs i (pos 0) l) (all-snoc s (take i xs) (getD xs i (pos 0)))
-
--- of two bounds the larger decides
 pub test-max : (m n h : ℕ) → m ≤ n → (ltb m h && ltb n h) ≡ ltb n h
 test-max m n h l =
     by-test (ltb n h)
     (λ t. let k : m < h = omega (arith, ltb-true n h t) in rw (lt-ltb m h k))
     (λ t. rw t (and-false (ltb m h)))
-
-pub all-each : (s : ℕ) (xs : List ℤ) (i : ℕ) → allFit s xs ≡ true → i < length xs → fits s (getD xs i (pos 0)) ≡ true
-unfolding every
-all-each s [] i t l = absurd (not-suc-le-zero l)
-all-each s (x ∷ xs) zero t l = both-true (fits s x) (allFit s xs) t .0
-all-each s (x ∷ xs) (suc i) t l = all-each s xs i (both-true (fits s x) (allFit s xs) t .1) (le-of-suc-le-suc l)
-
-pub each-all : (s : ℕ) (xs : List ℤ) → ((i : ℕ) → i < length xs → fits s (getD xs i (pos 0)) ≡ true) → allFit s xs ≡ true
-unfolding every
-each-all s [] h = refl
-each-all s (x ∷ xs) h = rw (h 0 (omega arith)) (each-all s xs (λ i l. h (suc i) (suc-le-suc l)))
 
 -- ---- the factor
 module _ (xs : List ℤ) where

@@ -1,4 +1,5 @@
 pub mod Tests
+pub mod Every
 pub mod Signed
 pub mod Sample
 pub mod Factor

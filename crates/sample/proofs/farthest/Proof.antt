@@ -15,9 +15,11 @@ use mir.ValLaws.{toZ-ofZ}
 use borrow.Author.Needs.{needs}
 use borrow.Author.Tests.{lt-ltb}
 use Rattle.bits.specs.Table.{every}
+use Rattle.sample.specs.Sample.{fits}
 use Rattle.sample.specs.Factor.{allFit}
 use Rattle.sample.proofs.Sample.{fits-mag}
-use Rattle.sample.proofs.Factor.{all-take, test-max}
+use Rattle.sample.proofs.Every.{every-take}
+use Rattle.sample.proofs.Factor.{test-max}
 use Rattle.sample.proofs.farthest.Statement.{statement}
 use Rattle.sample.proofs.farthest.Tie as tie
 
@@ -59,7 +61,7 @@ loop-again c =
     (λ w. test-max (l .most) (mag x) h (omega (arith, w .0 .taken)) ∙ ap (λ (m : ℕ). ltb m h) (sym reached ∙ sym (w .1)))
     (λ w. and-comm (ltb (l .most) h) (ltb (mag x) h) ∙ test-max (mag x) (l .most) h (omega (arith, w .0 .left)) ∙ ap (λ (m : ℕ). ltb m h) (sym (w .1)))
     (c .if1 .came) in
-    (search needs, λ s. all-take s xs (l .i) (omega arith) ∙ ap₂ (λ (a b : Bool). a && b) (l .inv .1 s) (fits-mag s x) ∙ larger (2 ^ (15 - s)))
+    (search needs, λ s. every-take (fits s) xs (l .i) (pos 0) (omega arith) ∙ ap₂ (λ (a b : Bool). a && b) (l .inv .1 s) (fits-mag s x) ∙ larger (2 ^ (15 - s)))
 
 returns : tie.Need-returns Inv-loop μ-loop
 returns c = λ s.
