@@ -1,0 +1,60 @@
+-- `scale::read` meets its contract. Assumes nothing.
+use mathlib.Core.Path.{_≡_, sym, _∙_}
+use mathlib.Core.Bool.{true, false}
+use borrow.Author.Tests.{not-true, not-false}
+use Rattle.scale.specs.Reading.{areBits, pairAnswer, readScale, readAnswer}
+use Rattle.scale.proofs.Majority.{majority-small}
+use Rattle.scale.proofs.Nearest.{pair-within, pair-beyond}
+use Rattle.scale.proofs.Scale.{read-found}
+use borrow.Author.Needs.{needs}
+use Rattle.scale.proofs.read.Statement.{statement}
+use Rattle.scale.proofs.read.Tie as tie
+
+slice-aggregate-are-bits : tie.Need-slice-aggregate-are-bits
+slice-aggregate-are-bits c = search needs
+
+are-bits-requires : tie.Need-are-bits-requires
+are-bits-requires c κs = search needs
+
+returns : tie.Need-returns
+unfolding readAnswer
+returns c =
+    let none : areBits (c .before .before .before .args .t1) ≡ false = sym (c .before .are-bits .ensures) ∙ not-true _ (c .if1 .taken) in
+    rw none
+
+slice-aggregate-majority-of : tie.Need-slice-aggregate-majority-of
+slice-aggregate-majority-of c = search needs
+
+majority-of-requires : tie.Need-majority-of-requires
+majority-of-requires c κs = search needs
+
+nearest-of-requires : tie.Need-nearest-of-requires
+nearest-of-requires c κs = rw (c .majority-of .ensures) (majority-small _)
+
+module _ (c : tie.After-nearest-of) where
+  all : areBits (c .before .before .before .before .before .before .args .t1) ≡ true
+  all = sym (c .before .before .before .before .are-bits .ensures) ∙ not-false _ (c .before .before .before .if1 .left)
+
+  found : pairAnswer (c .nearest-of .result) ≡ readScale (c .before .before .before .before .before .before .args .t1)
+  found = read-found _ (c .before .majority-of .result) (c .nearest-of .result) (c .before .majority-of .ensures) (c .nearest-of .ensures)
+
+returns-2 : tie.Need-returns-2
+unfolding readAnswer
+returns-2 c = rw (all (c .before)) (sym (pair-within (c .before .nearest-of .result) (c .if2 .taken)) ∙ found (c .before))
+
+returns-3 : tie.Need-returns-3
+unfolding readAnswer
+returns-3 c = rw (all (c .before)) (sym (pair-beyond (c .before .nearest-of .result) (c .if2 .left)) ∙ found (c .before))
+
+pub read-spec : {M : Type 1} → statement M
+read-spec =
+    tie.close
+    (tie.spec
+    slice-aggregate-are-bits
+    are-bits-requires
+    returns
+    slice-aggregate-majority-of
+    majority-of-requires
+    nearest-of-requires
+    returns-2
+    returns-3)
