@@ -1,0 +1,8 @@
+pub mod Tests
+pub mod Signed
+pub mod Sample
+pub mod Factor
+pub mod Patterns
+pub mod Answers
+pub mod Bench
+pub mod Unique

@@ -1,0 +1,4 @@
+pub mod Signed
+pub mod Sample
+pub mod Factor
+pub mod Pattern
