@@ -9,6 +9,7 @@
 --     filled-zero, filled-all   before the first store; after the last
 --     both-true                 two tests that pass together
 --     every-at                  what a test over a whole list says of each element: a table's rule is one such test
+--     every-append, every-take, every-stops    a test over two lists; over the first i + 1 elements; that one element fails
 --     getD-within               within a list the default does not matter
 -- Assumes nothing.
 use mathlib.Core.Path.{_≡_, refl, sym, ap, ap₂, _∙_, subst}
@@ -105,6 +106,14 @@ pub both-true : (a b : Bool) → a && b ≡ true → (a ≡ true) × (b ≡ true
 both-true true b e = (refl, e)
 both-true false b e = absurd (subst T (sym e) tt)
 
+and-assoc : (a b c : Bool) → (a && (b && c)) ≡ ((a && b) && c)
+and-assoc true b c = refl
+and-assoc false b c = refl
+
+and-false : (a : Bool) → (a && false) ≡ false
+and-false true = refl
+and-false false = refl
+
 both-left : (a b : Bool) → T (a && b) → T a
 both-left true b t = tt
 both-left false b t = t
@@ -119,6 +128,21 @@ module _ {A : Type 0} where
   every-at f [] k d t h = absurd (not-suc-le-zero h)
   every-at f (x ∷ l) zero d t h = both-left (f x) (every f l) t
   every-at f (x ∷ l) (suc k) d t h = every-at f l k d (both-right (f x) (every f l) t) (le-of-suc-le-suc h)
+
+  pub every-append : (f : A → Bool) (l m : List A) → every f (l ++ m) ≡ (every f l && every f m)
+  unfolding every
+  every-append f [] m = refl
+  every-append f (x ∷ l) m = rw (every-append f l m) (and-assoc (f x) (every f l) (every f m))
+
+  pub every-take : (f : A → Bool) (l : List A) (i : ℕ) (d : A) → i < length l → every f (take i l) ≡ true → f (getD l i d) ≡ true → every f (take (i + 1) l) ≡ true
+  unfolding every
+  every-take f l i d h e q = rw (add-one, take-suc l i d h, every-append f (take i l) (getD l i d ∷ []), e, q)
+
+  pub every-stops : (f : A → Bool) (l : List A) (i : ℕ) (d : A) → i < length l → f (getD l i d) ≡ false → every f l ≡ false
+  unfolding every
+  every-stops f [] i d h e = absurd (not-suc-le-zero h)
+  every-stops f (x ∷ l) zero d h e = rw e
+  every-stops f (x ∷ l) (suc i) d h e = rw (every-stops f l i d (le-of-suc-le-suc h) e) (and-false (f x))
 
   pub getD-within : (l : List A) (k : ℕ) (d e : A) → k < length l → getD l k d ≡ getD l k e
   getD-within [] k d e h = absurd (not-suc-le-zero h)

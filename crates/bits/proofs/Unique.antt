@@ -2,10 +2,11 @@
 --     same              two things that equal a third, as every promise that is an equation has it
 -- Then, for each public function, `FUNCTION-unique`. Assumes nothing.
 use mathlib.Core.Path.{_≡_, sym, _∙_}
+use mathlib.Core.Bool.{Bool}
 use mathlib.Core.List.{List}
 use Prim.Native.Nat.{ℕ}
 use lib.ListN.{getD}
-use Rattle.bits.specs.Bits.{bitAt, byteAt}
+use Rattle.bits.specs.Bits.{bitAt, byteAt, areBits}
 
 pub same : {A : Type 0} {r r' v : A} → r ≡ v → r' ≡ v → r ≡ r'
 same p q = p ∙ sym q
@@ -19,3 +20,6 @@ module _ (r r' : ℕ) (l : List ℕ) (k : ℕ) where
 
   pub byte-from-unique : r ≡ byteAt l k → r' ≡ byteAt l k → r ≡ r'
   byte-from-unique = same
+
+pub are-bits-unique : (r r' : Bool) (l : List ℕ) → r ≡ areBits l → r' ≡ areBits l → r ≡ r'
+are-bits-unique r r' l = same
