@@ -7,6 +7,7 @@
 --                                             whose coefficients are the n low digits of a number
 --     turn, ended                             a step more of a word; all of it, as a number
 --     whole, resumed, behind                  a division from the beginning; one that goes on behind a word, with zeros
+--     remainder-digits, check-digits          a remainder and check bits are the digits of their numbers
 --     small-remainder                         a remainder's number fits the register
 --     remainder-number, check-number          what the public functions promise, for a generator whose coefficients are known
 -- Assumes nothing.
@@ -26,7 +27,7 @@ use Rattle.bits.proofs.Digits.{length-digits, digits-append, value-digits, digi
 use Rattle.remainder.specs.Polynomial.{_⊕_, zeros, times}
 use Rattle.remainder.specs.Remainder.{takeOff, step, divide, remainder, checkBits, remainderNumber, checkNumber}
 use Rattle.remainder.proofs.Sum.{cons, ⊕-append, zeros-snoc, times-zero, times-one}
-use Rattle.remainder.proofs.Division.{divide-append, length-remainder, below-remainder}
+use Rattle.remainder.proofs.Division.{divide-append, length-remainder, below-remainder, length-check, below-check}
 
 pub digits-zero : (n : ℕ) → digits 2 n 0 ≡ zeros n
 unfolding digits
@@ -108,6 +109,13 @@ module _ (n reg d : ℕ) (small : reg < 2 ^ n) (digit : d < 2) where
       ∙ ap (λ (x : ℕ). digits 2 n w ⊕ times x (digits 2 n generator)) (sym (mod-eq-of-lt top))
       ∙ ap (takeOff (digits 2 n generator)) (sym (digits-cons n w) ∙ shifted)
 
+-- ---- a remainder is the digits of its number
+pub remainder-digits : (g w : List ℕ) → digits 2 (length g) (value 2 (remainder g w)) ≡ remainder g w
+remainder-digits g w = digits-value 2 (length g) (remainder g w) (below-remainder g w) (length-remainder g w)
+
+pub check-digits : (g w : List ℕ) → digits 2 (length g) (value 2 (checkBits g w)) ≡ checkBits g w
+check-digits g w = digits-value 2 (length g) (checkBits g w) (below-check g w) (length-check g w)
+
 -- ---- the division by numbers, step after step, from a remainder so far
 pub turn : (n : ℕ) (g r w : List ℕ) (reg reg′ i : ℕ) → digits 2 n reg ≡ divide g r (take i w) → i < length w
     → digits 2 n reg′ ≡ step g (digits 2 n reg) (getD w i 0) → digits 2 n reg′ ≡ divide g r (take (i + 1) w)
@@ -129,7 +137,7 @@ whole n generator w = ap (λ (k : ℕ). divide (digits 2 n generator) (zeros k) 
 pub resumed : (n generator : ℕ) (w : List ℕ) → digits 2 n (value 2 (remainder (digits 2 n generator) w)) ≡ remainder (digits 2 n generator) w
 resumed n generator w =
     let g : List ℕ = digits 2 n generator in
-    digits-value 2 n (remainder g w) (below-remainder g w) (length-remainder g w ∙ length-digits 2 n generator)
+    rw (length-digits 2 n generator) at (remainder-digits g w)
 
 pub behind : (n generator : ℕ) (w : List ℕ)
     → divide (digits 2 n generator) (remainder (digits 2 n generator) w) (zeros n) ≡ checkBits (digits 2 n generator) w

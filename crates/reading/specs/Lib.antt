@@ -1,0 +1,4 @@
+pub mod Reading
+pub mod Search
+pub mod Demand
+pub mod Wrong
