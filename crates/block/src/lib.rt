@@ -1,4 +1,5 @@
 // The block: 77 bits held as [u8; 77], one number per bit (document 01, "The block").
+use reading::Places;
 ghost use mathlib.Core.Path.{_≡_};
 ghost use mathlib.Core.Bool.{true};
 ghost use Prim.Native.Nat.{_<_};
@@ -9,7 +10,23 @@ ghost use Rattle.bits.specs.Digits.{value};
 ghost use Rattle.bits.specs.Bits.{areBits};
 ghost use Rattle.sample.specs.Sample.{isCode};
 ghost use Rattle.sample.specs.Pattern.{codeBits};
+ghost use Rattle.reading.specs.Wrong.{turn};
+ghost use Rattle.block.specs.Read.{IsRead};
 ghost use Rattle.block.specs.Layout.{sound, blockOf, writtenBlock, fourteen, placeOf, codesAt, codesOf};
+
+// What reading says of a block: with number 0 clean, mended with 1 or 2 places turned, or bad; or number 2.
+pub enum BlockReading {
+    Clean,
+    Mended(u8),
+    Bad,
+    OutOfRange,
+}
+
+// The 77 bits as they then stand: with number 2 as they were given.
+pub struct BlockRead {
+    pub reading: BlockReading,
+    pub bits: [u8; 77],
+}
 
 // Number 0 and the block, or number 2 and zeros.
 pub struct BlockWritten {
@@ -156,5 +173,44 @@ pub fn codes(bits: [u8; 77]) -> BlockCodes
         number: 0,
         codes: all_codes(bits),
         extra: [bits[75], bits[76]],
+    }
+}
+
+fn turned(bits: [u8; 77], place: usize) -> [u8; 77]
+    requires { ⌜ place < 77 ⌝ }
+    ensures { λ r. ⌜ r ≡ turn bits place ⌝ }
+{
+    let mut out = bits;
+    out[place] = (bits[place] % 2 + 1) % 2;
+    out
+}
+
+pub fn read(bits: [u8; 77]) -> BlockRead
+    ensures { λ r. ⌜ IsRead bits r ⌝ }
+{
+    if !bits::are_bits(&bits) {
+        return BlockRead {
+            reading: BlockReading::OutOfRange,
+            bits,
+        };
+    }
+    let remainder = code::block_remainder(&bits[0..63]);
+    match reading::places_of(remainder) {
+        Places::Zero => BlockRead {
+            reading: BlockReading::Clean,
+            bits,
+        },
+        Places::One(i) => BlockRead {
+            reading: BlockReading::Mended(1),
+            bits: turned(bits, i),
+        },
+        Places::Two(i, j) => BlockRead {
+            reading: BlockReading::Mended(2),
+            bits: turned(turned(bits, i), j),
+        },
+        Places::Nowhere => BlockRead {
+            reading: BlockReading::Bad,
+            bits,
+        },
     }
 }
