@@ -1,9 +1,9 @@
 -- Laws of digits and the numbers that they make.
---     below-append, below-take, below-getD, below-tab     what a list's parts have of `Below`, and a table
+--     below-append, below-take, below-drop, below-getD, below-tab     what a list's parts have of `Below`, and a table
 --     length-digits, getD-digits, below-digits            how many digits, which stands where, each is one
 --     digits-append, take-digits, drop-digits             the first ones are those of a quotient, the last ones the number's own
 --     value-append, value-snoc, value-below               two rows of digits, one digit more, the bound
---     value-tab, value-tab-below                          the same of a table, as a loop adds digit by digit
+--     value-tab, value-tab-below, value-take              the same of a table and of a list, as a loop adds digit by digit
 --     value-digits, digits-value                          the digits of a number make it again, and the other way round
 -- Assumes nothing.
 use mathlib.Core.Path.{_≡_, refl, sym, ap, ap₂, _∙_, subst}
@@ -32,6 +32,12 @@ module _ (b : ℕ) where
   below-take zero ds h = tt
   below-take (suc n) [] h = tt
   below-take (suc n) (d ∷ ds) h = (h .0, below-take n ds (h .1))
+
+  pub below-drop : (n : ℕ) (ds : List ℕ) → Below b ds → Below b (drop n ds)
+  unfolding Below
+  below-drop zero ds h = h
+  below-drop (suc n) [] h = tt
+  below-drop (suc n) (d ∷ ds) h = below-drop n ds (h .1)
 
   pub below-getD : (ds : List ℕ) (i : ℕ) → Below b ds → i < length ds → getD ds i 0 < b
   unfolding Below
@@ -107,6 +113,9 @@ module _ (b : ℕ) where
 
   pub value-tab-below : (n : ℕ) (f : ℕ → ℕ) → ((i : ℕ) → i < n → f i < b) → value b (tabulate n f) < b ^ n
   value-tab-below n f h = rw (length-tab n f) at (value-below (tabulate n f) (below-tab n f h))
+
+  pub value-take : (ds : List ℕ) (k : ℕ) → k < length ds → value b (take (k + 1) ds) ≡ value b (take k ds) * b + getD ds k 0
+  value-take ds k h = rw (add-one, take-suc ds k 0 h) (value-snoc (take k ds) (getD ds k 0))
 
   pub value-digits : (n x : ℕ) → 0 < b → value b (digits b n x) ≡ x % b ^ n
   unfolding value digits

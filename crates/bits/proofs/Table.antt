@@ -7,21 +7,23 @@
 --     filled f n xs             f below n, and xs from there on
 --     filled-set, filled-part   one store; a part that was lent and came back
 --     filled-zero, filled-all   before the first store; after the last
+--     either-way                a test passes or fails
 --     both-true                 two tests that pass together
 --     every-at                  what a test over a whole list says of each element: a table's rule is one such test
 --     every-append, every-take, every-stops    a test over two lists; over the first i + 1 elements; that one element fails
 --     getD-within               within a list the default does not matter
+--     getD-front, getD-back     what stands in two lists, one behind the other, the first of a known length
 -- Assumes nothing.
 use mathlib.Core.Path.{_≡_, refl, sym, ap, ap₂, _∙_, subst}
 use mathlib.Core.Bool.{Bool, true, false, _&&_}
 use mathlib.Core.Logic.{⊎-elim}
 use mathlib.Core.List.{List, [], _∷_, _++_, append-assoc, append-nil}
-use Prim.Native.Nat.{ℕ, zero, suc, _+_, _<_, _≤_}
+use Prim.Native.Nat.{ℕ, zero, suc, _+_, _-_, _<_, _≤_}
 use native.Mathlib.Nat.{not-suc-le-zero, le-of-suc-le-suc, eq-or-lt-of-le, add-zero, add-suc}
 use native.Mathlib.Numerals.{add-one}
 use native.Mathlib.Omega.{arith}
 use lib.ListN.{length, getD, take, drop, set, length-append, length-drop, drop-of-length-le, List·getD-append}
-use lib.Seq.{take-suc-set, take-suc, take-all, getD-at, ext-getD, drop-cons, drop-drop, take-at, drop-at, set-at, append-snoc}
+use lib.Seq.{getD-append-add, take-suc-set, take-suc, take-all, getD-at, ext-getD, drop-cons, drop-drop, take-at, drop-at, set-at, append-snoc}
 use lib.Dec.{T}
 use Rattle.bits.specs.Table.{tabulate, every}
 
@@ -102,6 +104,10 @@ module _ {A : Type 0} where
       rw (take-at (tabulate a f) (drop a xs) a (length-tab a f), drop-at (tabulate a f) (drop a xs) a (length-tab a f), e, drop-drop, tab-add, append-assoc)
 
 -- ---- a table's rule
+pub either-way : {P : Type 0} (b : Bool) → (b ≡ true → P) → (b ≡ false → P) → P
+either-way true yes' no' = yes' refl
+either-way false yes' no' = no' refl
+
 pub both-true : (a b : Bool) → a && b ≡ true → (a ≡ true) × (b ≡ true)
 both-true true b e = (refl, e)
 both-true false b e = absurd (subst T (sym e) tt)
@@ -143,6 +149,14 @@ module _ {A : Type 0} where
   every-stops f [] i d h e = absurd (not-suc-le-zero h)
   every-stops f (x ∷ l) zero d h e = rw e
   every-stops f (x ∷ l) (suc i) d h e = rw (every-stops f l i d (le-of-suc-le-suc h) e) (and-false (f x))
+
+  pub getD-front : (xs ys : List A) (n k : ℕ) (d : A) → length xs ≡ n → k < n → getD (xs ++ ys) k d ≡ getD xs k d
+  getD-front xs ys n k d e h = List·getD-append xs ys d k (subst (λ (m : ℕ). k < m) (sym e) h)
+
+  pub getD-back : (xs ys : List A) (n k : ℕ) (d : A) → length xs ≡ n → n ≤ k → getD (xs ++ ys) k d ≡ getD ys (k - n) d
+  getD-back xs ys n k d e h =
+      let at : k ≡ length xs + (k - n) = omega arith in
+      ap (λ (m : ℕ). getD (xs ++ ys) m d) at ∙ getD-append-add xs ys (k - n) d
 
   pub getD-within : (l : List A) (k : ℕ) (d e : A) → k < length l → getD l k d ≡ getD l k e
   getD-within [] k d e h = absurd (not-suc-le-zero h)

@@ -1,11 +1,12 @@
 -- Any two results that meet a promise are the same: for each public function, `FUNCTION-unique`.
 -- An answer of the code can be told from what it says in document 01's terms (`coded-back` and its like). Assumes nothing.
 use mathlib.Core.Path.{_≡_, refl}
+use mathlib.Core.Bool.{Bool}
 use mathlib.Core.List.{List}
 use Prim.Native.Nat.{ℕ}
 use lib.IntN.{ℤ}
 use Rattle.bits.proofs.Unique.{same}
-use Rattle.sample.specs.Sample.{coded, sampled, codeAnswer, sampleAnswer}
+use Rattle.sample.specs.Sample.{isCode, coded, sampled, codeAnswer, sampleAnswer}
 use Rattle.sample.specs.Factor.{chosen, factorAnswer}
 use Rattle.sample.specs.Pattern.{signedOf, patternOf}
 use Rattle.sample.specs.declared.Coded.{Coded}
@@ -42,3 +43,6 @@ signed-of-unique r r' u = same
 
 pub pattern-of-unique : (r r' : ℕ) (z : ℤ) → r ≡ patternOf 8192 z → r' ≡ patternOf 8192 z → r ≡ r'
 pattern-of-unique r r' z = same
+
+pub is-code-unique : (r r' : Bool) (c : ℤ) → r ≡ isCode c → r' ≡ isCode c → r ≡ r'
+is-code-unique r r' c = same

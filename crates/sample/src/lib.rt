@@ -5,7 +5,7 @@ ghost use mathlib.Core.Path.{_≡_};
 ghost use Prim.Native.Nat.{ℕ, _-_, _^_};
 ghost use lib.Dec.{ltb};
 ghost use lib.Signed.{mag};
-ghost use Rattle.sample.specs.Sample.{codeAnswer, sampleAnswer, coded, sampled};
+ghost use Rattle.sample.specs.Sample.{isCode, codeAnswer, sampleAnswer, coded, sampled};
 ghost use Rattle.sample.specs.Factor.{allFit, largest, factorAnswer, chosen};
 
 pub enum Coded {
@@ -31,6 +31,13 @@ fn reach(z: i16) -> u16
     ensures { λ r. ⌜ r ≡ mag z ⌝ }
 {
     if z < 0 { (-1 - z) as u16 } else { z as u16 }
+}
+
+// Whether a number is a 14-bit code.
+pub fn is_code(code: i16) -> bool
+    ensures { λ r. ⌜ r ≡ isCode code ⌝ }
+{
+    reach(code) < 8192
 }
 
 // A sample that fits times 2^factor still has 16 bits, and a division by 4 is left at every factor.

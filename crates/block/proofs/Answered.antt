@@ -1,0 +1,91 @@
+-- The reader's answer from the places found.
+--     turn-front, turn-small       a bit turned among the first ones of a row; it is 0 or 1
+--     outcome block p              what the code answers where p are the wrong places
+--     found-read                   that is the reading
+--     out-of-range                 and so is the refusal
+-- Assumes nothing.
+use mathlib.Core.Path.{_≡_, refl, sym, ap, ap₂, _∙_}
+use mathlib.Core.Bool.{true, false}
+use mathlib.Core.List.{List, [], _∷_, _++_}
+use Prim.Native.Nat.{ℕ, _+_, _%_, _<_}
+use native.Mathlib.Omega.{arith}
+use lib.ListN.{length, getD, take, drop, set, length-set, take-append-drop}
+use lib.Seq.{length-take-le, getD-take, set-append-left}
+use Rattle.bits.specs.Bits.{areBits}
+use Rattle.bits.specs.Digits.{value}
+use Rattle.bits.specs.Answer.{accepted, refused}
+use Rattle.bits.proofs.Digits.{below-take}
+use Rattle.bits.proofs.Bits.{bits-below}
+use Rattle.remainder.specs.Remainder.{remainder}
+use Rattle.code.specs.Generators.{blockGenerator}
+use Rattle.reading.specs.Reading.{Reading, handed}
+use Rattle.reading.specs.Search.{reading}
+use Rattle.reading.specs.Wrong.{turn, readAs, answer, wrongPlaces, Within}
+use Rattle.reading.specs.declared.Places.{Places}
+use Rattle.reading.specs.declared.Places.the-variants.{Zero, One, Two, Nowhere}
+use Rattle.reading.proofs.Answered.{answered-reading, answered-within}
+use Rattle.block.specs.Read.{said, protected, saidOf, handedOn, told, IsRead}
+use Rattle.block.specs.declared.BlockReading.the-variants.{Clean, Mended, Bad, OutOfRange}
+use Rattle.block.specs.declared.BlockRead.{BlockRead}
+
+length-turn : (w : List ℕ) (i : ℕ) → length (turn w i) ≡ length w
+unfolding turn
+length-turn w i = length-set w i ((getD w i 0 + 1) % 2)
+
+-- a bit turned among the first ones of a row
+turn-front : (w rest : List ℕ) (i : ℕ) → i < length w → turn w i ++ rest ≡ turn (w ++ rest) i
+unfolding turn
+turn-front w rest i h =
+    sym
+    (ap (λ (x : ℕ). set (w ++ rest) i ((x + 1) % 2)) (lib.ListN.List·getD-append w rest 0 i h)
+    ∙ set-append-left w rest i ((getD w i 0 + 1) % 2) h)
+
+unfoldable pub outcome : List ℕ → Places → BlockRead
+outcome block Zero = record { reading = Clean; bits = block }
+outcome block (One i) = record { reading = Mended 1; bits = turn block i }
+outcome block (Two i j) = record { reading = Mended 2; bits = turn (turn block i) j }
+outcome block Nowhere = record { reading = Bad; bits = block }
+
+module _ (block : List ℕ) (size : length block ≡ 77) (bits : areBits block ≡ true) where
+  whole : protected block ++ drop 63 block ≡ block
+  whole = take-append-drop 63 block
+
+  front : length (protected block) ≡ 63
+  front = length-take-le 63 block (omega arith)
+
+  one-turned : (i : ℕ) → i < 63 → turn (protected block) i ++ drop 63 block ≡ turn block i
+  one-turned i h = turn-front (protected block) (drop 63 block) i (omega (arith, front)) ∙ ap (λ (l : List ℕ). turn l i) whole
+
+  two-turned : (i j : ℕ) → i < 63 → j < 63 → turn (turn (protected block) i) j ++ drop 63 block ≡ turn (turn block i) j
+  two-turned i j h k =
+      turn-front (turn (protected block) i) (drop 63 block) j (omega (arith, front, length-turn (protected block) i))
+      ∙ ap (λ (l : List ℕ). turn l j) (one-turned i h)
+
+  -- the answer and the bits that the places make
+  says : (p : Places) → told (outcome block p .reading) ≡ accepted (said (readAs (protected block) p) ∷ [])
+  unfolding outcome told said readAs
+  says Zero = refl
+  says (One i) = refl
+  says (Two i j) = refl
+  says Nowhere = refl
+
+  hands : (p : Places) → Within p → outcome block p .bits ≡ handed (protected block) (readAs (protected block) p) ++ drop 63 block
+  unfolding outcome handed readAs Within
+  hands Zero h = sym whole
+  hands (One i) h = sym (one-turned i h)
+  hands (Two i j) h = sym (two-turned i j (omega arith) (omega arith))
+  hands Nowhere h = sym whole
+
+  pub found-read : (r : ℕ) (p : Places) → r ≡ value 2 (remainder blockGenerator (protected block)) → answer p ≡ wrongPlaces 2 r → IsRead block (outcome block p)
+  unfolding saidOf handedOn
+  found-read r p e a =
+      let read : reading 2 (protected block) ≡ readAs (protected block) p =
+      answered-reading (protected block) r p front (below-take 2 63 block (bits-below block bits)) e a in
+      record {
+        answer = rw (bits, read) (says p);
+        bits = rw (bits, read) (hands p (answered-within r p a));
+      }
+
+pub out-of-range : (block : List ℕ) → areBits block ≡ false → IsRead block (record { reading = OutOfRange; bits = block })
+unfolding saidOf handedOn told
+out-of-range block e = record { answer = rw e; bits = rw e }

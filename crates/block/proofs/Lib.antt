@@ -1,0 +1,3 @@
+pub mod Joined
+pub mod Places
+pub mod Answered
