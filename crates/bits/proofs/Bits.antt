@@ -21,7 +21,8 @@ use lib.Seq.{ext-getD}
 use Rattle.bits.specs.Table.{tabulate, every}
 use Rattle.bits.specs.Digits.{value, digits, Below}
 use Rattle.bits.specs.Bits.{bitAt, bitsOf, eightAt, byteAt, bytesOf, ones, areBits}
-use Rattle.bits.proofs.Table.{length-tab, getD-tab, tab-ext, tab-getD, both-true}
+use Rattle.bits.proofs.Table.{length-tab, getD-tab, tab-ext, tab-getD}
+use Rattle.bits.proofs.Tests.{both-true}
 use Rattle.bits.proofs.Digits.{length-digits, getD-digits, below-digits, below-getD, below-tab, value-digits, digits-value}
 
 pub bitAt-shifted : (bytes : List ℕ) (k : ℕ) → bitAt bytes k ≡ getD bytes (k / 8) 0 / 2 ^ (7 - k % 8) % 2

@@ -2,6 +2,7 @@
 --     below-append, below-take, below-drop, below-getD, below-tab     what a list's parts have of `Below`, and a table
 --     length-digits, getD-digits, below-digits            how many digits, which stands where, each is one
 --     digits-append, take-digits, drop-digits             the first ones are those of a quotient, the last ones the number's own
+--     digits-zero, digits-cons, digits-low                in base 2: of 0; the highest digit in front; only the low ones count
 --     value-append, value-snoc, value-below               two rows of digits, one digit more, the bound
 --     value-tab, value-tab-below, value-take              the same of a table and of a list, as a loop adds digit by digit
 --     value-digits, digits-value                          the digits of a number make it again, and the other way round
@@ -11,12 +12,12 @@ use mathlib.Core.Logic.{⊎-elim}
 use mathlib.Core.List.{List, [], _∷_, _++_, append-assoc, append-nil}
 use Prim.Native.Nat.{ℕ, zero, suc, _+_, _-_, _*_, _/_, _%_, _^_, _<_, _≤_}
 use native.Mathlib.Nat.{not-suc-le-zero, le-of-suc-le-suc, eq-or-lt-of-le, add-zero, add-suc, zero-add, mul-one, add-mul, mul-assoc, add-assoc, pow-zero, pow-suc, pow-succ', div-one, div-div-eq-div-mul, mod-lt, mod-one, mod-eq-of-lt}
-use native.Mathlib.Numerals.{add-one}
+use native.Mathlib.Numerals.{add-one, one-add}
 use native.Mathlib.Omega.{arith}
-use lib.ListN.{length, getD, take, drop, length-append, List·getD-append}
+use lib.ListN.{length, getD, take, drop, replicate, length-append, replicate-append-replicate, List·getD-append}
 use lib.Seq.{getD-at, take-suc, take-all, take-at, drop-at, length-take-le}
 use lib.Arith.{digits-lt, digits-div, digits-mod, mod-mul}
-use lib.Pow.{pow-add}
+use lib.Pow.{pow-add, field, mod-mod-pow}
 use Rattle.bits.specs.Digits.{value, digits, Below}
 use Rattle.bits.specs.Table.{tabulate}
 use Rattle.bits.proofs.Table.{length-tab}
@@ -137,3 +138,23 @@ module _ (b : ℕ) where
       (ap (digits b n) (ap (λ (v : ℕ). v / b) made ∙ digits-div (value b (take n ds)) last) ∙ digits-value n (take n ds) (below-take n ds h) m)
       (ap (λ (v : ℕ). v % b) made ∙ digits-mod (value b (take n ds)) last)
       ∙ sym whole
+
+-- ---- binary digits
+pub digits-zero : (n : ℕ) → digits 2 n 0 ≡ replicate n 0
+unfolding digits
+digits-zero zero = refl
+digits-zero (suc n) =
+    ap (λ (l : List ℕ). l ++ (0 ∷ [])) (digits-zero n) ∙ replicate-append-replicate n 1 0 ∙ ap (λ (k : ℕ). replicate k 0) (add-one n)
+
+pub digits-cons : (n x : ℕ) → digits 2 (suc n) x ≡ x / 2 ^ n % 2 ∷ digits 2 n x
+unfolding digits
+digits-cons n x = ap (λ (k : ℕ). digits 2 k x) (sym (one-add n)) ∙ digits-append 2 1 n x
+
+pub digits-low : (n x : ℕ) → digits 2 n (x % 2 ^ n) ≡ digits 2 n x
+unfolding digits
+digits-low zero x = refl
+digits-low (suc n) x =
+    ap₂ (λ (h l : ℕ). digits 2 n h ++ (l ∷ []))
+    (ap (λ (k : ℕ). x % 2 ^ k / 2) (sym (add-one n)) ∙ field x n 1)
+    (ap (λ (k : ℕ). x % 2 ^ k % 2) (sym (add-one n)) ∙ mod-mod-pow x n 1)
+    ∙ ap (λ (l : List ℕ). l ++ (x % 2 ∷ [])) (digits-low n (x / 2))

@@ -1,4 +1,6 @@
+pub mod Tests
 pub mod Table
+pub mod Every
 pub mod Digits
 pub mod Bits
 pub mod Answer

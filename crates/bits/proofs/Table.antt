@@ -7,15 +7,11 @@
 --     filled f n xs             f below n, and xs from there on
 --     filled-set, filled-part   one store; a part that was lent and came back
 --     filled-zero, filled-all   before the first store; after the last
---     either-way                a test passes or fails
---     both-true                 two tests that pass together
---     every-at                  what a test over a whole list says of each element: a table's rule is one such test
---     every-append, every-take, every-stops    a test over two lists; over the first i + 1 elements; that one element fails
+--     length-snoc               one element more at the end
 --     getD-within               within a list the default does not matter
 --     getD-front, getD-back     what stands in two lists, one behind the other, the first of a known length
 -- Assumes nothing.
 use mathlib.Core.Path.{_≡_, refl, sym, ap, ap₂, _∙_, subst}
-use mathlib.Core.Bool.{Bool, true, false, _&&_}
 use mathlib.Core.Logic.{⊎-elim}
 use mathlib.Core.List.{List, [], _∷_, _++_, append-assoc, append-nil}
 use Prim.Native.Nat.{ℕ, zero, suc, _+_, _-_, _<_, _≤_}
@@ -24,8 +20,7 @@ use native.Mathlib.Numerals.{add-one}
 use native.Mathlib.Omega.{arith}
 use lib.ListN.{length, getD, take, drop, set, length-append, length-drop, drop-of-length-le, List·getD-append}
 use lib.Seq.{getD-append-add, take-suc-set, take-suc, take-all, getD-at, ext-getD, drop-cons, drop-drop, take-at, drop-at, set-at, append-snoc}
-use lib.Dec.{T}
-use Rattle.bits.specs.Table.{tabulate, every}
+use Rattle.bits.specs.Table.{tabulate}
 
 module _ {A : Type 0} where
   pub length-tab : (n : ℕ) (f : ℕ → A) → length (tabulate n f) ≡ n
@@ -103,52 +98,11 @@ module _ {A : Type 0} where
   filled-part f a k xs ys h e =
       rw (take-at (tabulate a f) (drop a xs) a (length-tab a f), drop-at (tabulate a f) (drop a xs) a (length-tab a f), e, drop-drop, tab-add, append-assoc)
 
--- ---- a table's rule
-pub either-way : {P : Type 0} (b : Bool) → (b ≡ true → P) → (b ≡ false → P) → P
-either-way true yes' no' = yes' refl
-either-way false yes' no' = no' refl
-
-pub both-true : (a b : Bool) → a && b ≡ true → (a ≡ true) × (b ≡ true)
-both-true true b e = (refl, e)
-both-true false b e = absurd (subst T (sym e) tt)
-
-and-assoc : (a b c : Bool) → (a && (b && c)) ≡ ((a && b) && c)
-and-assoc true b c = refl
-and-assoc false b c = refl
-
-and-false : (a : Bool) → (a && false) ≡ false
-and-false true = refl
-and-false false = refl
-
-both-left : (a b : Bool) → T (a && b) → T a
-both-left true b t = tt
-both-left false b t = t
-
-both-right : (a b : Bool) → T (a && b) → T b
-both-right true b t = t
-both-right false b t = absurd t
-
+-- ---- what stands where
 module _ {A : Type 0} where
-  pub every-at : (f : A → Bool) (l : List A) (k : ℕ) (d : A) → T (every f l) → k < length l → T (f (getD l k d))
-  unfolding every
-  every-at f [] k d t h = absurd (not-suc-le-zero h)
-  every-at f (x ∷ l) zero d t h = both-left (f x) (every f l) t
-  every-at f (x ∷ l) (suc k) d t h = every-at f l k d (both-right (f x) (every f l) t) (le-of-suc-le-suc h)
-
-  pub every-append : (f : A → Bool) (l m : List A) → every f (l ++ m) ≡ (every f l && every f m)
-  unfolding every
-  every-append f [] m = refl
-  every-append f (x ∷ l) m = rw (every-append f l m) (and-assoc (f x) (every f l) (every f m))
-
-  pub every-take : (f : A → Bool) (l : List A) (i : ℕ) (d : A) → i < length l → every f (take i l) ≡ true → f (getD l i d) ≡ true → every f (take (i + 1) l) ≡ true
-  unfolding every
-  every-take f l i d h e q = rw (add-one, take-suc l i d h, every-append f (take i l) (getD l i d ∷ []), e, q)
-
-  pub every-stops : (f : A → Bool) (l : List A) (i : ℕ) (d : A) → i < length l → f (getD l i d) ≡ false → every f l ≡ false
-  unfolding every
-  every-stops f [] i d h e = absurd (not-suc-le-zero h)
-  every-stops f (x ∷ l) zero d h e = rw e
-  every-stops f (x ∷ l) (suc i) d h e = rw (every-stops f l i d (le-of-suc-le-suc h) e) (and-false (f x))
+  pub length-snoc : (p : List A) (b : A) → length (p ++ (b ∷ [])) ≡ suc (length p)
+  length-snoc [] b = refl
+  length-snoc (x ∷ p) b = ap suc (length-snoc p b)
 
   pub getD-front : (xs ys : List A) (n k : ℕ) (d : A) → length xs ≡ n → k < n → getD (xs ++ ys) k d ≡ getD xs k d
   getD-front xs ys n k d e h = List·getD-append xs ys d k (subst (λ (m : ℕ). k < m) (sym e) h)

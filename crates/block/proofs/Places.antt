@@ -15,7 +15,8 @@ use lib.Dec.{ltb}
 use lib.IntN.{ℤ, pos}
 use lib.ListN.{length, getD, take, drop, length-drop, drop-of-length-le, length-append}
 use lib.Seq.{getD-take, getD-drop, length-take-le, drop-cons}
-use Rattle.bits.proofs.Table.{getD-front, getD-back, either-way}
+use Rattle.bits.proofs.Table.{getD-front, getD-back}
+use Rattle.bits.proofs.Tests.{either-way}
 use Rattle.code.specs.Generators.{blockGenerator}
 use Rattle.code.specs.Words.{encode}
 use Rattle.code.proofs.Smallest.{block-size}

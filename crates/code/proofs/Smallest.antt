@@ -19,7 +19,7 @@ use Rattle.bits.proofs.Digits.{below-append}
 use Rattle.remainder.specs.Polynomial.{_⊕_, zeros, times}
 use Rattle.remainder.specs.Remainder.{takeOff, step, divide, remainder, checkBits}
 use Rattle.remainder.proofs.Sum.{length-⊕, below-⊕, ⊕-cancel, below-zeros, length-zeros}
-use Rattle.remainder.proofs.Lists.{length-snoc}
+use Rattle.bits.proofs.Table.{length-snoc}
 use Rattle.remainder.proofs.Ones.{ones-zeros}
 use Rattle.remainder.proofs.Parity.{even-remainder}
 use Rattle.code.specs.Generators.{power, powers, blockGenerator, scaleGenerator}

@@ -12,10 +12,9 @@ use native.Mathlib.Omega.{arith}
 use lib.ListN.{length, take, drop, length-append, take-append-drop, length-drop}
 use lib.Seq.{take-at, drop-at}
 use Rattle.bits.specs.Digits.{Below}
-use Rattle.bits.proofs.Digits.{below-append, below-take}
+use Rattle.bits.proofs.Digits.{below-append, below-take, below-drop}
 use Rattle.remainder.specs.Polynomial.{_⊕_, zeros}
 use Rattle.remainder.specs.Remainder.{remainder, checkBits}
-use Rattle.remainder.proofs.Lists.{below-drop}
 use Rattle.remainder.proofs.Sum.{⊕-zeros, length-zeros, below-zeros}
 use Rattle.remainder.proofs.Division.{length-check, below-check, remainder-check, check-only, remainder-⊕}
 use Rattle.code.specs.Words.{Word, encode}

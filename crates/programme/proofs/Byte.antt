@@ -19,7 +19,7 @@ use Rattle.bits.specs.Bits.{ones}
 use Rattle.bits.specs.Answer.{Answer, accepted, refused}
 use Rattle.bits.proofs.Digits.{length-digits, below-digits, below-append, take-digits, drop-digits, digits-append, value-append, value-snoc, value-digits, digits-value}
 use Rattle.bits.proofs.Answer.{by-test}
-use Rattle.bits.proofs.Table.{both-true}
+use Rattle.bits.proofs.Tests.{both-true}
 use Rattle.bits.proofs.Bits.{ones-append, ones-digits}
 use Rattle.programme.specs.Byte.{eight, kind, music, mode, even, seven, made, readByte, writeByte}
 

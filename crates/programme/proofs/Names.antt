@@ -11,7 +11,8 @@ use native.Mathlib.Omega.{arith}
 use lib.Dec.{T, leb, leb→le}
 use lib.ListN.{length, getD, replicate, length-append, length-replicate, List·getD-map}
 use Rattle.bits.specs.Table.{every}
-use Rattle.bits.proofs.Table.{every-at, getD-within}
+use Rattle.bits.proofs.Table.{getD-within}
+use Rattle.bits.proofs.Every.{every-at}
 use Rattle.programme.specs.Names.{names, letters, padded, nameOf, goodWord}
 
 pub name-at : (d : List ℕ) (t : ℕ) → t < 16 → getD (map padded names) t d ≡ nameOf t

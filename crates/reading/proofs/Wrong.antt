@@ -17,11 +17,10 @@ use lib.Pow.{pow-pos}
 use lib.ListN.{length, getD, length-append, List·getD-map}
 use Rattle.bits.specs.Bits.{ones}
 use Rattle.bits.specs.Digits.{value, digits}
-use Rattle.bits.proofs.Digits.{length-digits, below-digits, value-digits, digits-value, value-below}
+use Rattle.bits.proofs.Digits.{length-digits, below-digits, value-digits, digits-value, value-below, digits-zero, digits-low}
 use Rattle.remainder.specs.Polynomial.{_⊕_, zeros}
 use Rattle.remainder.specs.Remainder.{remainder}
 use Rattle.remainder.specs.Columns.{column, columns}
-use Rattle.remainder.proofs.Lists.{digits-zero, digits-low}
 use Rattle.remainder.proofs.Sum.{⊕-self, ⊕-cancel, length-⊕, below-⊕, length-zeros, below-zeros}
 use Rattle.remainder.proofs.Division.{remainder-zeros, remainder-short}
 use Rattle.remainder.proofs.Ones.{ones-zeros, none-zeros}

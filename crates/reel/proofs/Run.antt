@@ -19,7 +19,7 @@ use lib.ListN.{length, getD, take, drop, length-take, length-drop}
 use lib.Seq.{take-add, take-all, length-take-le}
 use Rattle.bits.specs.Answer.{accepted, refused}
 use Rattle.bits.proofs.Answer.{by-test, by-test-refused}
-use Rattle.bits.proofs.Table.{both-true}
+use Rattle.bits.proofs.Tests.{both-true}
 use Rattle.reel.specs.Header.{mostSuperframes}
 use Rattle.reel.specs.Run.{superframeBytes, countOf, isRun, superframe, runOf, partNumber}
 

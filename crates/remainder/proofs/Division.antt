@@ -22,7 +22,7 @@ use Rattle.bits.specs.Digits.{Below}
 use Rattle.bits.proofs.Digits.{below-append}
 use Rattle.remainder.specs.Polynomial.{_⊕_, zeros, times}
 use Rattle.remainder.specs.Remainder.{takeOff, step, divide, remainder, checkBits}
-use Rattle.remainder.proofs.Lists.{length-snoc}
+use Rattle.bits.proofs.Table.{length-snoc}
 use Rattle.remainder.proofs.Sum.{length-⊕, below-⊕, ⊕-append, ⊕-zeros, zeros-⊕, ⊕-self, ⊕-cancel, length-zeros, below-zeros, zeros-snoc, length-times, times-zero, ⊕-times}
 
 module _ (g : List ℕ) where

@@ -1,4 +1,3 @@
-pub mod Lists
 pub mod Sum
 pub mod Division
 pub mod Columns

@@ -13,7 +13,7 @@ use Rattle.bits.specs.Bits.{ones}
 use Rattle.bits.proofs.Bits.{ones-append}
 use Rattle.remainder.specs.Polynomial.{zeros, times}
 use Rattle.remainder.specs.Remainder.{takeOff, step, divide, remainder}
-use Rattle.remainder.proofs.Lists.{length-snoc}
+use Rattle.bits.proofs.Table.{length-snoc}
 use Rattle.remainder.proofs.Sum.{length-zeros, below-zeros, length-times, times-zero, times-one}
 use Rattle.remainder.proofs.Division.{length-step, below-step}
 use Rattle.remainder.proofs.Ones.{ones-zeros, even-add, even-⊕}

@@ -22,10 +22,9 @@ use lib.Pow.{pow-pos, pow-lt}
 use lib.ListN.{length, take, getD}
 use lib.Seq.{take-suc, take-all}
 use Rattle.bits.specs.Digits.{value, digits}
-use Rattle.bits.proofs.Digits.{length-digits, value-digits, digits-value, value-below}
+use Rattle.bits.proofs.Digits.{length-digits, value-digits, digits-value, value-below, digits-zero, digits-cons, digits-low}
 use Rattle.remainder.specs.Polynomial.{_⊕_, zeros, times}
 use Rattle.remainder.specs.Remainder.{takeOff, step, divide, remainder, checkBits, remainderNumber, checkNumber}
-use Rattle.remainder.proofs.Lists.{digits-zero, digits-cons, digits-low}
 use Rattle.remainder.proofs.Sum.{cons, ⊕-append, times-zero, times-one}
 use Rattle.remainder.proofs.Division.{divide-append, length-remainder, below-remainder, length-check, below-check}
 

@@ -17,7 +17,7 @@ use lib.Dec.{ltb}
 use lib.IntN.{ℤ}
 use borrow.Author.Tests.{ltb-true, ltb-false, lt-ltb}
 use Rattle.sample.specs.Factor.{allFit, largest, factorOf}
-use Rattle.sample.proofs.Tests.{by-test}
+use Rattle.bits.proofs.Tests.{either-way}
 
 -- ---- the largest with a test
 module _ (P : ℕ → Bool) where
@@ -35,20 +35,20 @@ module _ (P : ℕ → Bool) where
   unfolding largest
   largest-bound zero = zero-le
   largest-bound (suc n) =
-      by-test (P (suc n))
+      either-way (P (suc n))
       (λ t. rw t (omega arith))
       (λ t. let l : largest n P ≤ n = largest-bound n in rw t (omega arith))
 
   pub largest-has : (n : ℕ) → P 0 ≡ true → P (largest n P) ≡ true
   unfolding largest
   largest-has zero h = h
-  largest-has (suc n) h = by-test (P (suc n)) (λ t. rw t t) (λ t. rw t (largest-has n h))
+  largest-has (suc n) h = either-way (P (suc n)) (λ t. rw t t) (λ t. rw t (largest-has n h))
 
   pub largest-none : (n s : ℕ) → s ≤ n → largest n P < s → P s ≡ false
   unfolding largest
   largest-none zero s l h = absurd (not-suc-le-zero (lt-of-lt-of-le h l))
   largest-none (suc n) s l h =
-      by-test (P (suc n))
+      either-way (P (suc n))
       (λ t. absurd (lt-irrefl s (lt-of-le-of-lt l (rw t at h))))
       (λ t. ⊎-elim (λ e. rw e t) (λ m. largest-none n s (le-of-suc-le-suc m) (rw t at h)) (eq-or-lt-of-le l))
 
@@ -59,7 +59,7 @@ largest-ext (suc n) P Q e = rw (e (suc n), largest-ext n P Q e)
 
 pub test-max : (m n h : ℕ) → m ≤ n → (ltb m h && ltb n h) ≡ ltb n h
 test-max m n h l =
-    by-test (ltb n h)
+    either-way (ltb n h)
     (λ t. let k : m < h = omega (arith, ltb-true n h t) in rw (lt-ltb m h k))
     (λ t. rw t (and-false (ltb m h)))
 
@@ -84,4 +84,4 @@ module _ (xs : List ℤ) where
       (not-lt (λ k. true≢false (sym fit ∙ factor-largest s l k)))
     where
       not-lt : {a b : ℕ} → (b < a → ⊥) → a ≤ b
-      not-lt {a} {b} h = by-test (ltb b a) (λ t. absurd (h (ltb-true b a t))) (λ t. ltb-false b a t)
+      not-lt {a} {b} h = either-way (ltb b a) (λ t. absurd (h (ltb-true b a t))) (λ t. ltb-false b a t)

@@ -1,9 +1,6 @@
-pub mod Tests
-pub mod Every
 pub mod Signed
 pub mod Sample
 pub mod Factor
 pub mod Patterns
-pub mod Answers
 pub mod Bench
 pub mod Unique

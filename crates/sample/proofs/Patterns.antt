@@ -23,7 +23,7 @@ use Rattle.bits.proofs.Digits.{length-digits, below-digits, getD-digits, value-
 use Rattle.sample.specs.Signed.{modZ}
 use Rattle.sample.specs.Sample.{isCode}
 use Rattle.sample.specs.Pattern.{signedOf, patternOf, codeBits, bitsCode}
-use Rattle.sample.proofs.Tests.{by-test}
+use Rattle.bits.proofs.Tests.{either-way}
 use Rattle.sample.proofs.Signed.{sub-neg}
 use Rattle.sample.proofs.Sample.{code-mag}
 
@@ -43,7 +43,7 @@ module _ (h : ℕ) (some : 0 < h) where
   pub signed-mag : (u : ℕ) → mag (signedOf h u) < h
   signed-mag u =
       let b : u % (h * 2) < h * 2 = mod-lt u twice in
-      by-test (ltb (u % (h * 2)) h)
+      either-way (ltb (u % (h * 2)) h)
       (λ t. let l : u % (h * 2) < h = ltb-true (u % (h * 2)) h t in rw (signed-low u l) l)
       (λ t. let l : h ≤ u % (h * 2) = ltb-false (u % (h * 2)) h t in rw (signed-high u l) (omega arith))
 
@@ -67,7 +67,7 @@ module _ (h : ℕ) (some : 0 < h) where
   unfolding patternOf modZ
   pattern-signed u =
       let b : u % (h * 2) < h * 2 = mod-lt u twice in
-      by-test (ltb (u % (h * 2)) h)
+      either-way (ltb (u % (h * 2)) h)
       (λ t. let l : u % (h * 2) < h = ltb-true (u % (h * 2)) h t in rw (signed-low u l) (mod-eq-of-lt b))
       (λ t.
       let l : h ≤ u % (h * 2) = ltb-false (u % (h * 2)) h t in

@@ -23,7 +23,7 @@ use mir.ValLaws.{toZ-pos}
 use borrow.Author.Tests.{ltb-true, lt-ltb, leb-true, leb-false, le-leb}
 use Rattle.sample.specs.Signed.{modZ}
 use Rattle.sample.specs.Sample.{fits, isCode, codeOf, sampleOf}
-use Rattle.sample.proofs.Tests.{by-test}
+use Rattle.bits.proofs.Tests.{either-way}
 use Rattle.sample.proofs.Signed.{between-mag, mag-mul, mag-shr-lt, shr-mul, mul-shr, shift-up, shift-down}
 
 pub pow-split : (m n : ℕ) → n ≤ m → 2 ^ m ≡ 2 ^ (m - n) * 2 ^ n
@@ -54,14 +54,14 @@ code-mag c = between-mag 8192 c (omega arith)
 pub shrunk : (c : ℤ) (s : ℕ) → shrZ (c *ℤ pos 4) (2 ^ s) ≡ sampleOf c s
 unfolding sampleOf
 shrunk c s =
-    by-test (leb s 2)
+    either-way (leb s 2)
     (λ t. rw t (shift-up c (2 ^ (2 - s)) (2 ^ s) 4 (pow-pos (2 - s)) (pow-pos s) (pow-split 2 s (leb-true s 2 t))))
     (λ t. let l : 2 ≤ s = omega (arith, leb-false s 2 t) in rw t (shift-down c 4 (2 ^ (s - 2)) (2 ^ s) (omega arith) (pow-split' s 2 l)))
 
 pub grown : (x : ℤ) (s : ℕ) → shrZ (x *ℤ pos (2 ^ s)) 4 ≡ codeOf x s
 unfolding codeOf
 grown x s =
-    by-test (leb s 2)
+    either-way (leb s 2)
     (λ t. rw t (shift-down x (2 ^ s) (2 ^ (2 - s)) 4 (pow-pos s) (pow-split' 2 s (leb-true s 2 t))))
     (λ t. let l : 2 ≤ s = omega (arith, leb-false s 2 t) in rw t (shift-up x (2 ^ (s - 2)) 4 (2 ^ s) (pow-pos (s - 2)) (omega arith) (pow-split s 2 l)))
 

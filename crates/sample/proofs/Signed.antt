@@ -18,7 +18,7 @@ use lib.IntN.{ℤ, pos, negsuc, negℤ, _-ℤ_, _*ℤ_}
 use lib.Signed.{mag, ltZ, shrZ}
 use borrow.Author.Tests.{ltb-true, ltb-false, lt-ltb, le-ltb, le-leb, lt-leb}
 use Rattle.sample.specs.Signed.{between, modZ}
-use Rattle.sample.proofs.Tests.{by-test}
+use Rattle.bits.proofs.Tests.{either-way}
 
 pub sub-pos : (a b : ℕ) → b ≤ a → pos a -ℤ pos b ≡ pos (a - b)
 sub-pos a zero h = ap pos (omega arith)
@@ -43,11 +43,11 @@ not-negative (negsuc a) t = absurd (true≢false t)
 pub between-mag : (h : ℕ) (z : ℤ) → 0 < h → between (negℤ (pos h)) (pos (h - 1)) z ≡ ltb (mag z) h
 between-mag zero z l = absurd (not-suc-le-zero l)
 between-mag (suc k) (pos a) l =
-    by-test (ltb a (suc k))
+    either-way (ltb a (suc k))
     (λ t. let u : a ≤ suc k - 1 = omega (arith, ltb-true a (suc k) t) in rw t (le-leb a (suc k - 1) u))
     (λ t. let u : suc k - 1 < a = omega (arith, ltb-false a (suc k) t) in rw t (lt-leb a (suc k - 1) u))
 between-mag (suc k) (negsuc a) l =
-    by-test (ltb a (suc k))
+    either-way (ltb a (suc k))
     (λ t. let u : a ≤ k = omega (arith, ltb-true a (suc k) t) in rw (t, le-leb a k u))
     (λ t. let u : k < a = omega (arith, ltb-false a (suc k) t) in rw (t, lt-leb a k u))
 

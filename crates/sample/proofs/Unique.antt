@@ -5,7 +5,6 @@ use mathlib.Core.Bool.{Bool}
 use mathlib.Core.List.{List}
 use Prim.Native.Nat.{ℕ}
 use lib.IntN.{ℤ}
-use Rattle.bits.proofs.Unique.{same}
 use Rattle.sample.specs.Sample.{isCode, coded, sampled, codeAnswer, sampleAnswer}
 use Rattle.sample.specs.Factor.{chosen, factorAnswer}
 use Rattle.sample.specs.Pattern.{signedOf, patternOf}
@@ -15,7 +14,8 @@ use Rattle.sample.specs.declared.Sampled.{Sampled}
 use Rattle.sample.specs.declared.Sampled.the-variants as S
 use Rattle.sample.specs.declared.Chosen.{Chosen}
 use Rattle.sample.specs.declared.Chosen.the-variants as F
-use Rattle.sample.proofs.Answers.{first, same-through}
+use Rattle.bits.proofs.Answer.{first}
+use Rattle.bits.proofs.Unique.{same, same-through}
 
 coded-back : (r : Coded) → first C.Code C.Refused (coded r .values) ≡ r
 coded-back (C.Code c) = refl

@@ -1,5 +1,4 @@
 pub mod Word
-pub mod Entries
 pub mod Majority
 pub mod Nearest
 pub mod Scale

@@ -21,7 +21,7 @@ use Rattle.bits.specs.Table.{tabulate}
 use Rattle.bits.specs.Digits.{value, digits, Below}
 use Rattle.bits.proofs.Table.{length-tab, tab-ext, tab-getD}
 use Rattle.bits.proofs.Digits.{below-tab, below-getD, value-below, value-tab-below, digits-value}
-use Rattle.sample.proofs.Tests.{by-test}
+use Rattle.bits.proofs.Tests.{either-way}
 use Rattle.scale.specs.Reading.{most, majority}
 
 pub sum-room : (f : ℕ → ℕ) → ((i : ℕ) → f i < 2) → (k n : ℕ) → k ≤ n → value 2 (tabulate k f) < 2 ^ n
@@ -29,7 +29,7 @@ sum-room f h k n l = lt-of-lt-of-le (value-tab-below 2 k f (λ i m. h i)) (pow-m
 
 pub most-below : (a b c : ℕ) → most a b c < 2
 unfolding most
-most-below a b c = by-test (ltb (a % 2 + b % 2 + c % 2) 2) (λ t. rw t (omega arith)) (λ t. rw t (omega arith))
+most-below a b c = either-way (ltb (a % 2 + b % 2 + c % 2) 2) (λ t. rw t (omega arith)) (λ t. rw t (omega arith))
 
 pub length-majority : (bits : List ℕ) → length (majority bits) ≡ 14
 unfolding majority
@@ -63,7 +63,7 @@ majority-take bits =
 pub most-same : (a b c x : ℕ) → x < 2 → (s : ℕ) → s < 2 → a % 2 + b % 2 + c % 2 ≡ x + x + s → most a b c ≡ x
 unfolding most
 most-same a b c x h s k e =
-    by-test (ltb (a % 2 + b % 2 + c % 2) 2)
+    either-way (ltb (a % 2 + b % 2 + c % 2) 2)
     (λ t. rw t (omega (arith, ltb-true (a % 2 + b % 2 + c % 2) 2 t)))
     (λ t. rw t (omega (arith, ltb-false (a % 2 + b % 2 + c % 2) 2 t)))
 

@@ -21,12 +21,12 @@ use borrow.Author.Tests.{leb-true, lt-ltb, le-ltb}
 use Rattle.bits.specs.Answer.{accepted, refused}
 use Rattle.bits.specs.Bits.{ones}
 use Rattle.bits.specs.Digits.{digits}
-use Rattle.remainder.proofs.Ones.{ones-append}
+use Rattle.bits.proofs.Bits.{ones-append}
 use Rattle.remainder.proofs.Register.{digits-xor}
 use Rattle.code.specs.Words.{distance}
 use Rattle.code.proofs.Smallest.{scale-near}
 use Rattle.code.proofs.Distance.{distance-comm, distance-triangle}
-use Rattle.sample.proofs.Tests.{by-test}
+use Rattle.bits.proofs.Tests.{either-way}
 use Rattle.scale.specs.Reading.{nearTo, pairAnswer, nearestOf, nearest}
 use Rattle.scale.proofs.Word.{wordOf, scale-word, length-scaleWord, word-pair}
 
@@ -55,7 +55,7 @@ module _ (w : List ℕ) (sized : length w ≡ 14) where
   unfolding nearestOf
   among-hit zero n l h t = absurd (not-suc-le-zero h)
   among-hit (suc m) n l h t =
-      by-test (nearTo w m)
+      either-way (nearTo w m)
       (λ u. rw u (ap pairAnswer (near-one m n l (omega arith) u t)))
       (λ u. rw u (⊎-elim (λ e. absurd (true≢false (sym t ∙ ap (nearTo w) e ∙ u))) (λ k. among-hit m n (omega arith) k t) (eq-or-lt-of-le (le-of-suc-le-suc h))))
 
@@ -80,7 +80,7 @@ pub record Near (w : List ℕ) : Type 0 where
 near-among : (m : ℕ) (w : List ℕ) → m ≤ 64 → Near w ⊎ ((n : ℕ) → n < m → nearTo w n ≡ false)
 near-among zero w l = inr (λ n h. absurd (not-suc-le-zero h))
 near-among (suc m) w l =
-    by-test (nearTo w m)
+    either-way (nearTo w m)
     (λ t. inl (record { pair = m; within = l; near = t }))
     (λ t. ⊎-elim inl (λ h. inr (λ n k. ⊎-elim (λ e. rw e t) (h n) (eq-or-lt-of-le (le-of-suc-le-suc k)))) (near-among m w (omega arith)))
 

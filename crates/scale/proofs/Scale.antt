@@ -32,11 +32,12 @@ use Rattle.bits.proofs.Table.{tab-ext, tab-getD}
 use Rattle.remainder.specs.Polynomial.{_⊕_}
 use Rattle.code.specs.Words.{distance}
 use Rattle.code.proofs.Distance.{distance-self, distance-changed}
-use Rattle.sample.proofs.Tests.{by-test}
+use Rattle.bits.proofs.Tests.{either-way}
 use Rattle.scale.specs.Word.{scaleWord, writeAnswer}
-use Rattle.scale.specs.Reading.{areBits, majority, mends, nearTo, pairAnswer, nearest, readScale, readAnswer}
+use Rattle.scale.specs.Reading.{majority, mends, nearTo, pairAnswer, nearest, readScale, readAnswer}
 use Rattle.scale.specs.Extra.{information, beside, extraAnswer}
-use Rattle.scale.proofs.Entries.{are-below, below-are}
+use Rattle.bits.specs.Bits.{areBits}
+use Rattle.bits.proofs.Bits.{bits-below, below-bits}
 use Rattle.scale.proofs.Word.{wordOf, length-scaleWord, below-scaleWord}
 use Rattle.scale.proofs.Majority.{length-majority, majority-digits, majority-take, first-other, second-other, third-other}
 use Rattle.scale.proofs.Nearest.{pair-within, nearest-hit, nearest-miss, near-or-none}
@@ -90,7 +91,7 @@ module _ (bits : List ℕ) where
 
   pub near-none : readScale bits ≡ refused 5 → (l r : ℕ) → l ≤ 7 → r ≤ 7 → mends < distance (scaleWord l r) (majority bits)
   near-none e l r h k =
-      by-test (leb (distance (scaleWord l r) (majority bits)) 2)
+      either-way (leb (distance (scaleWord l r) (majority bits)) 2)
       (λ t. absurd (never-both 4 (sym e ∙ factors-near l r h k (leb-true (distance (scaleWord l r) (majority bits)) 2 t))))
       (λ t. leb-false (distance (scaleWord l r) (majority bits)) 2 t)
 
@@ -117,7 +118,7 @@ module _ (l r : ℕ) (h : l ≤ 7) (k : r ≤ 7) where
   written-back =
       let w = scaleWord l r in
       let b = below-scaleWord l r in
-      let all : areBits (w ++ (w ++ w)) ≡ true = below-are (w ++ (w ++ w)) (below-append 2 w (w ++ w) b (below-append 2 w w b b)) in
+      let all : areBits (w ++ (w ++ w)) ≡ true = below-bits (w ++ (w ++ w)) (below-append 2 w (w ++ w) b (below-append 2 w w b b)) in
       rw (le-leb l 7 h, le-leb r 7 k, all) (third-wrong w)
 
 -- ---- the extra bits
@@ -127,7 +128,7 @@ information-sum bits s t =
     let sized : length (drop 42 bits) ≡ 22 = length-drop 42 bits ∙ omega arith in
     ap (value 2)
     (tab-ext 22 (λ j. getD bits (42 + j) 0 % 2) (λ j. getD (drop 42 bits) j 0)
-    (λ j h. mod-eq-of-lt (below-getD 2 bits (42 + j) (are-below bits t) (omega arith)) ∙ sym (getD-drop 42 bits j 0))
+    (λ j h. mod-eq-of-lt (below-getD 2 bits (42 + j) (bits-below bits t) (omega arith)) ∙ sym (getD-drop 42 bits j 0))
     ∙ sym (tab-getD 22 (drop 42 bits) 0 sized))
 
 module _ (bits : List ℕ) (t : areBits bits ≡ true) where

@@ -6,8 +6,7 @@ use mathlib.Core.List.{List, [], _∷_}
 use Prim.Native.Nat.{ℕ}
 use lib.Dec.{eqb}
 use Rattle.bits.specs.Answer.{Answer}
-use Rattle.bits.proofs.Unique.{same}
-use Rattle.sample.proofs.Answers.{same-through}
+use Rattle.bits.proofs.Unique.{same, same-through}
 use Rattle.scale.specs.Word.{writeAnswer}
 use Rattle.scale.specs.Reading.{readAnswer, told}
 use Rattle.scale.specs.Extra.{extraAnswer}

@@ -13,10 +13,9 @@ use native.Mathlib.Nat.{mod-eq-of-lt, div-div-eq-div-mul}
 use native.Mathlib.Omega.{arith}
 use lib.ListN.{length, take, length-append}
 use Rattle.bits.specs.Digits.{value, digits, Below}
-use Rattle.bits.proofs.Digits.{below-append, length-digits, below-digits, digits-append, value-append, value-below, value-digits, digits-value}
+use Rattle.bits.proofs.Digits.{below-append, length-digits, below-digits, digits-append, value-append, value-below, value-digits, digits-value, digits-low}
 use Rattle.remainder.specs.Remainder.{checkBits}
 use Rattle.remainder.proofs.Division.{length-check, below-check}
-use Rattle.remainder.proofs.Register.{digits-low}
 use Rattle.code.specs.Generators.{scaleGenerator}
 use Rattle.code.specs.Words.{ScaleWord, encode}
 use Rattle.code.proofs.Words.{encode-word, take-encode}

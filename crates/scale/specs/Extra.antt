@@ -7,8 +7,9 @@ use mathlib.Core.Bool.{cond}
 use mathlib.Core.List.{List}
 use lib.ListN.{getD, take, drop}
 use Rattle.bits.specs.Answer.{Answer}
+use Rattle.bits.specs.Bits.{areBits}
 use Rattle.bits.specs.Digits.{value}
-use Rattle.scale.specs.Reading.{areBits, readScale}
+use Rattle.scale.specs.Reading.{readScale}
 use Rattle.scale.specs.declared.Extra.{Extra}
 
 unfoldable pub information : List ℕ → ℕ

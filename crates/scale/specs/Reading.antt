@@ -1,6 +1,5 @@
 -- Reading a scale word that was sent three times (document 01, "Scale words": the majority at each of the 14 places, then the scale
 -- word at most two places from it; where none is, refusal 5). Places count from 0 here, and from 1 in the document.
---     areBits bits      every entry is 0 or 1
 --     most a b c        what at least two of three bits are
 --     majority bits     the majority at each of the 14 places of bits 1 to 14, 15 to 28 and 29 to 42
 --     mends             how many places may differ
@@ -16,15 +15,13 @@ use mathlib.Core.Bool.{Bool, cond}
 use mathlib.Core.List.{List, [], _∷_}
 use lib.Dec.{leb, ltb}
 use lib.ListN.{getD}
-use Rattle.bits.specs.Table.{tabulate, every}
+use Rattle.bits.specs.Table.{tabulate}
+use Rattle.bits.specs.Bits.{areBits}
 use Rattle.bits.specs.Answer.{Answer, accepted, refused}
 use Rattle.code.specs.Words.{distance}
 use Rattle.scale.specs.Word.{scaleWord}
 use Rattle.scale.specs.declared.Reading.{Reading}
 use Rattle.scale.specs.declared.Reading.the-variants.{Factors, Unreadable, OutOfRange}
-
-abbrev pub areBits : List ℕ → Bool
-areBits bits = every (λ x. ltb x 2) bits
 
 unfoldable pub most : ℕ → ℕ → ℕ → ℕ
 most a b c = cond (ltb (a % 2 + b % 2 + c % 2) 2) 0 1

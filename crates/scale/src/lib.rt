@@ -5,7 +5,7 @@ ghost use lib.ListN.{getD};
 ghost use Rattle.bits.specs.Table.{tabulate};
 ghost use Rattle.bits.specs.Digits.{value, digits};
 ghost use Rattle.scale.specs.Word.{scaleWord, writeAnswer};
-ghost use Rattle.scale.specs.Reading.{areBits, most, majority, nearTo, pairAnswer, nearest, readAnswer, told};
+ghost use Rattle.scale.specs.Reading.{most, majority, nearTo, pairAnswer, nearest, readAnswer, told};
 ghost use Rattle.scale.specs.Extra.{extraAnswer};
 
 // Number 0 and the 14 bits of a scale word, or number 2 and zeros.
@@ -76,20 +76,6 @@ pub fn write(left: u8, right: u8) -> Written
     Written { number: 0, bits }
 }
 
-// Whether every entry is 0 or 1.
-fn are_bits(bits: &[u8]) -> bool
-    ensures { λ r. ⌜ r ≡ areBits (now (bits .entry)) ⌝ }
-{
-    let mut i: usize = 0;
-    while i < bits.len() {
-        if 1 < bits[i] {
-            return false;
-        }
-        i += 1;
-    }
-    true
-}
-
 fn vote(a: u8, b: u8, c: u8) -> u32
     ensures { λ r. ⌜ r ≡ most a b c ⌝ }
 {
@@ -141,7 +127,7 @@ fn nearest_of(word: u32) -> u8
 pub fn read(bits: [u8; 42]) -> Reading
     ensures { λ r. ⌜ told r ≡ readAnswer bits ⌝ }
 {
-    if !are_bits(&bits) {
+    if !bits::are_bits(&bits) {
         return Reading::OutOfRange;
     }
     let pair = nearest_of(majority_of(&bits));
@@ -168,7 +154,7 @@ fn word_behind(bits: &[u8]) -> u32
 pub fn read_extra(bits: [u8; 64]) -> Extra
     ensures { λ r. ⌜ r ≡ extraAnswer bits ⌝ }
 {
-    if !are_bits(&bits) {
+    if !bits::are_bits(&bits) {
         return Extra {
             number: 2,
             left: 0,

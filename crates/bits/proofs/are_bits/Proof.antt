@@ -10,7 +10,7 @@ use lib.ListN.{length, take, getD}
 use lib.Seq.{take-all}
 use Rattle.bits.specs.Table.{every}
 use Rattle.bits.specs.Bits.{areBits}
-use Rattle.bits.proofs.Table.{every-take, every-stops}
+use Rattle.bits.proofs.Every.{every-take, every-fails}
 use borrow.Author.Needs.{needs}
 use Rattle.bits.proofs.are_bits.Statement.{statement}
 use Rattle.bits.proofs.are_bits.Tie as tie
@@ -33,7 +33,7 @@ unfolding areBits
 returns c =
     let l : List ℕ = c .before .before .before .before .args .list .now in
     let i : ℕ = c .before .before .before .loop .i in
-    sym (every-stops (λ x. leb x 1) l i 0 (omega arith) (lt-leb (getD l i 0) 1 (omega arith)))
+    sym (every-fails (λ x. leb x 1) l i 0 (omega arith) (lt-leb (getD l i 0) 1 (omega arith)))
 
 add-i : tie.Need-add-i Inv-loop μ-loop
 add-i c = search needs
@@ -45,7 +45,7 @@ loop-again : tie.Need-loop-again Inv-loop μ-loop
 loop-again c =
     let l : List ℕ = c .before .before .before .before .args .list .now in
     let i : ℕ = c .before .before .before .loop .i in
-    (search needs, every-take (λ x. leb x 1) l i 0 (omega arith) (c .before .before .before .loop .inv .1) (le-leb (getD l i 0) 1 (omega arith)))
+    (search needs, rw (every-take (λ x. leb x 1) l i 0 (omega arith), c .before .before .before .loop .inv .1, le-leb (getD l i 0) 1 (omega arith)))
 
 returns-2 : tie.Need-returns-2 Inv-loop μ-loop
 unfolding areBits

@@ -11,7 +11,7 @@ use lib.Seq.{take-all}
 use mir.Syntax.{w16}
 use mir.ValLaws.{toZ-ofZ}
 use Rattle.bits.specs.Table.{every}
-use Rattle.bits.proofs.Table.{every-take, every-stops}
+use Rattle.bits.proofs.Every.{every-take, every-fails}
 use Rattle.sample.specs.Sample.{isCode}
 use borrow.Author.Needs.{needs}
 use Rattle.block.proofs.are_codes.Statement.{statement}
@@ -46,7 +46,7 @@ returns : tie.Need-returns Inv-loop μ-loop
 returns c =
     let codes = c .before .before .before .before .before .args .t1 in
     let four : length codes ≡ 4 = search needs in
-    sym (every-stops isCode codes (c .before .before .before .before .loop .i) (pos 0) (omega arith) (sym (tested (c .before)) ∙ not-true _ (c .if1 .taken)))
+    sym (every-fails isCode codes (c .before .before .before .before .loop .i) (pos 0) (omega arith) (sym (tested (c .before)) ∙ not-true _ (c .if1 .taken)))
 
 add-i : tie.Need-add-i Inv-loop μ-loop
 add-i c = search needs
@@ -59,7 +59,8 @@ loop-again c =
     let codes = c .before .before .before .before .before .args .t1 in
     let four : length codes ≡ 4 = search needs in
     let l = c .before .before .before .before .loop in
-    (search needs, every-take isCode codes (l .i) (pos 0) (omega arith) (l .inv .1) (sym (tested (c .before)) ∙ not-false _ (c .if1 .left)))
+    let more : isCode (getD codes (l .i) (pos 0)) ≡ true = sym (tested (c .before)) ∙ not-false _ (c .if1 .left) in
+    (search needs, rw (every-take isCode codes (l .i) (pos 0) (omega arith), l .inv .1, more))
 
 returns-2 : tie.Need-returns-2 Inv-loop μ-loop
 returns-2 c =

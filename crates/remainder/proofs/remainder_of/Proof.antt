@@ -8,7 +8,7 @@ use borrow.Author.Tests.{le-leb, lt-leb}
 use Rattle.bits.specs.Digits.{value, digits}
 use Rattle.remainder.specs.Polynomial.{zeros}
 use Rattle.remainder.specs.Remainder.{divide, remainderNumber}
-use Rattle.remainder.proofs.Lists.{digits-zero}
+use Rattle.bits.proofs.Digits.{digits-zero}
 use Rattle.remainder.proofs.Register.{turn, ended, whole}
 use Rattle.remainder.proofs.remainder_of.Statement.{statement}
 use Rattle.remainder.proofs.remainder_of.Tie as tie

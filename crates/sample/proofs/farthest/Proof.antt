@@ -18,7 +18,7 @@ use Rattle.bits.specs.Table.{every}
 use Rattle.sample.specs.Sample.{fits}
 use Rattle.sample.specs.Factor.{allFit}
 use Rattle.sample.proofs.Sample.{fits-mag}
-use Rattle.sample.proofs.Every.{every-take}
+use Rattle.bits.proofs.Every.{every-take}
 use Rattle.sample.proofs.Factor.{test-max}
 use Rattle.sample.proofs.farthest.Statement.{statement}
 use Rattle.sample.proofs.farthest.Tie as tie

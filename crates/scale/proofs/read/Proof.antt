@@ -2,7 +2,8 @@
 use mathlib.Core.Path.{_≡_, sym, _∙_}
 use mathlib.Core.Bool.{true, false}
 use borrow.Author.Tests.{not-true, not-false}
-use Rattle.scale.specs.Reading.{areBits, pairAnswer, readScale, readAnswer}
+use Rattle.bits.specs.Bits.{areBits}
+use Rattle.scale.specs.Reading.{pairAnswer, readScale, readAnswer}
 use Rattle.scale.proofs.Majority.{majority-small}
 use Rattle.scale.proofs.Nearest.{pair-within, pair-beyond}
 use Rattle.scale.proofs.Scale.{read-found}

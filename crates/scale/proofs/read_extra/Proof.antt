@@ -3,7 +3,8 @@ use mathlib.Core.Path.{_≡_, sym, ap₂, _∙_}
 use mathlib.Core.Bool.{true, false}
 use lib.ListN.{length, take}
 use borrow.Author.Tests.{not-true, not-false}
-use Rattle.scale.specs.Reading.{areBits, pairAnswer, readScale}
+use Rattle.bits.specs.Bits.{areBits}
+use Rattle.scale.specs.Reading.{pairAnswer, readScale}
 use Rattle.scale.specs.Extra.{information, beside, extraAnswer}
 use Rattle.scale.proofs.Majority.{majority-small}
 use Rattle.scale.proofs.Nearest.{pair-within, pair-beyond}

@@ -1,13 +1,13 @@
--- Laws of tests, for any crate.
---     by-test            a proof by cases on a test
+-- Laws of tests.
+--     either-way         a proof by cases on a test
 --     both-true          two tests that pass together
 -- Assumes nothing.
 use mathlib.Core.Path.{_≡_, refl, sym}
 use mathlib.Core.Bool.{Bool, true, false, true≢false, _&&_}
 
-pub by-test : {P : Type 0} (b : Bool) → (b ≡ true → P) → (b ≡ false → P) → P
-by-test true h k = h refl
-by-test false h k = k refl
+pub either-way : {P : Type 0} (b : Bool) → (b ≡ true → P) → (b ≡ false → P) → P
+either-way true h k = h refl
+either-way false h k = k refl
 
 pub both-true : (a b : Bool) → a && b ≡ true → (a ≡ true) × (b ≡ true)
 both-true true b t = (refl, t)

@@ -1,7 +1,8 @@
--- Laws of a test over a whole list, for any crate.
+-- Laws of a test over a whole list.
 --     every-take                   one element more
 --     every-each, each-every       it passes exactly where it passes at each element
 --     every-fails                  one element at which it fails
+--     every-at                     a table's rule: one test that is computed over the whole table says it of each entry
 -- Assumes nothing.
 use mathlib.Core.Path.{_≡_, refl, sym, _∙_}
 use mathlib.Core.Bool.{Bool, true, false, true≢false, _&&_, and-true, and-assoc}
@@ -12,8 +13,17 @@ use native.Mathlib.Numerals.{add-one}
 use native.Mathlib.Omega.{arith}
 use lib.ListN.{length, getD, take}
 use lib.Seq.{take-suc}
+use lib.Dec.{T}
 use Rattle.bits.specs.Table.{every}
-use Rattle.sample.proofs.Tests.{by-test, both-true}
+use Rattle.bits.proofs.Tests.{either-way, both-true}
+
+head : (a b : Bool) → T (a && b) → T a
+head true b t = tt
+head false b t = t
+
+tail : (a b : Bool) → T (a && b) → T b
+tail true b t = t
+tail false b t = absurd t
 
 module _ {A : Type 0} (f : A → Bool) where
   every-snoc : (xs : List A) (x : A) → every f (xs ++ (x ∷ [])) ≡ (every f xs && f x)
@@ -36,4 +46,10 @@ module _ {A : Type 0} (f : A → Bool) where
   each-every (x ∷ xs) d h = rw (h 0 (omega arith)) (each-every xs d (λ i l. h (suc i) (suc-le-suc l)))
 
   pub every-fails : (xs : List A) (i : ℕ) (d : A) → i < length xs → f (getD xs i d) ≡ false → every f xs ≡ false
-  every-fails xs i d l t = by-test (every f xs) (λ u. absurd (true≢false (sym (every-each xs i d u l) ∙ t))) (λ u. u)
+  every-fails xs i d l t = either-way (every f xs) (λ u. absurd (true≢false (sym (every-each xs i d u l) ∙ t))) (λ u. u)
+
+  pub every-at : (xs : List A) (k : ℕ) (d : A) → T (every f xs) → k < length xs → T (f (getD xs k d))
+  unfolding every
+  every-at [] k d t h = absurd (not-suc-le-zero h)
+  every-at (x ∷ xs) zero d t h = head (f x) (every f xs) t
+  every-at (x ∷ xs) (suc k) d t h = every-at xs k d (tail (f x) (every f xs) t) (le-of-suc-le-suc h)
