@@ -1,0 +1,4 @@
+pub mod Tests
+pub mod Ranges
+pub mod Syncs
+pub mod Unique

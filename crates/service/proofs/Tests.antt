@@ -1,0 +1,18 @@
+-- Laws of tests that are joined, as a function's early returns join them.
+--     both, both-left, both-right     where the first test and then the second hold, and what each says
+-- Assumes nothing.
+use mathlib.Core.Path.{_≡_, refl}
+use mathlib.Core.Bool.{Bool, true, false, cond}
+
+module _ (a b : Bool) where
+  pub both : a ≡ true → b ≡ true → cond a b false ≡ true
+  both p q = rw (p, q)
+
+pub both-left : (a b : Bool) → cond a b false ≡ true → a ≡ true
+both-left true b h = refl
+both-left false b h = h
+
+pub both-right : (a b : Bool) → cond a b false ≡ true → b ≡ true
+both-right true b h = h
+both-right false true h = refl
+both-right false false h = h

@@ -1,0 +1,30 @@
+-- `service::sync::continues` meets its contract: one case for each kind of sync. Assumes nothing.
+use borrow.Author.Needs.{needs}
+use Rattle.service.proofs.sync.continues.Statement.{statement}
+use Rattle.service.proofs.sync.continues.Tie as tie
+
+enum-told : tie.Need-enum-told
+enum-told c = search needs
+
+enum-told-2 : tie.Need-enum-told-2
+enum-told-2 c = search needs
+
+is-open-requires : tie.Need-is-open-requires
+is-open-requires c κs = search needs
+
+enum-told-3 : tie.Need-enum-told-3
+enum-told-3 c = search needs
+
+returns : tie.Need-returns
+returns c = search needs
+
+returns-2 : tie.Need-returns-2
+returns-2 c = rw (c .before .enum-told2 .given .1) (c .is-open .ensures)
+
+returns-3 : tie.Need-returns-3
+returns-3 c = search needs
+
+pub continues-spec : {M : Type 1} → statement M
+continues-spec =
+    tie.close
+    (tie.spec enum-told enum-told-2 is-open-requires enum-told-3 returns returns-2 returns-3)

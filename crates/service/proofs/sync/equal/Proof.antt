@@ -1,0 +1,67 @@
+-- `service::sync::equal` meets its contract: what the bits left say is what all of them say. Assumes nothing.
+use mathlib.Core.Path.{_≡_, refl, sym, _∙_}
+use mathlib.Core.Bool.{cond, false}
+use Prim.Native.Nat.{ℕ, _+_, _-_, _<_, _≤_}
+use native.Mathlib.Omega.{arith}
+use lib.Dec.{eqb}
+use lib.ListN.{length, drop, getD}
+use borrow.Author.Tests.{eq-eqb, ne-eqb}
+use Rattle.service.specs.Sync.{same}
+use Rattle.service.proofs.Syncs.{same-drop, same-end}
+use borrow.Author.Needs.{needs}
+use Rattle.service.proofs.sync.equal.Statement.{statement}
+use Rattle.service.proofs.sync.equal.Tie as tie
+
+abbrev Inv-loop : tie.InvT-loop
+Inv-loop a b i₀ i = (i ≤ 16) × (same a b ≡ same (drop i a) (drop i b))
+
+abbrev μ-loop : tie.MeasureT-loop
+μ-loop a b i₀ i = 16 - i
+
+loop-holds : tie.Need-loop-holds Inv-loop μ-loop
+loop-holds c = (search needs, refl)
+
+array-read-if1 : tie.Need-array-read-if1 Inv-loop μ-loop
+array-read-if1 c = search needs
+
+array-read-if1-2 : tie.Need-array-read-if1-2 Inv-loop μ-loop
+array-read-if1-2 c = search needs
+
+at-first : (h : tie.At-loop Inv-loop μ-loop) → h .loop .i < 16
+    → same (h .before .args .t1) (h .before .args .t2)
+    ≡ cond (eqb (getD (h .before .args .t1) (h .loop .i) 0) (getD (h .before .args .t2) (h .loop .i) 0)) (same (drop (h .loop .i + 1) (h .before .args .t1)) (drop (h .loop .i + 1) (h .before .args .t2))) false
+at-first h l =
+    h .loop .inv .1 ∙ same-drop (h .before .args .t1) (h .before .args .t2) (h .loop .i) (omega arith) (omega arith)
+
+returns : tie.Need-returns Inv-loop μ-loop
+returns c = sym (at-first (c .before .before) (c .before .loop-test .taken) ∙ rw (ne-eqb _ _ (c .if1 .taken)))
+
+add-i : tie.Need-add-i Inv-loop μ-loop
+add-i c = search needs
+
+loop-less : tie.Need-loop-less Inv-loop μ-loop
+loop-less c = search needs
+
+loop-again : tie.Need-loop-again Inv-loop μ-loop
+loop-again c =
+    (search needs, at-first (c .before .before) (c .before .loop-test .taken) ∙ rw (eq-eqb _ _ (c .if1 .left)))
+
+returns-2 : tie.Need-returns-2 Inv-loop μ-loop
+returns-2 c =
+    let h = c .before in
+    sym (h .loop .inv .1 ∙ same-end (h .before .args .t1) (h .before .args .t2) (h .loop .i) (omega arith) (omega arith))
+
+pub equal-spec : {M : Type 1} → statement M
+equal-spec =
+    tie.close
+    (tie.spec
+    Inv-loop
+    μ-loop
+    loop-holds
+    array-read-if1
+    array-read-if1-2
+    returns
+    add-i
+    loop-less
+    loop-again
+    returns-2)

@@ -1,0 +1,5 @@
+pub mod Range
+pub mod Places
+pub mod Six
+pub mod Sync
+pub mod Service
