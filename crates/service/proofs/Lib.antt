@@ -2,3 +2,4 @@ pub mod Tests
 pub mod Ranges
 pub mod Syncs
 pub mod Unique
+pub mod Machine

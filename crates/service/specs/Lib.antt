@@ -3,3 +3,4 @@ pub mod Places
 pub mod Six
 pub mod Sync
 pub mod Service
+pub mod Run
