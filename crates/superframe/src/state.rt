@@ -1,6 +1,6 @@
 // The reader's state, which goes in and comes back with the answer: fresh, after a lost superframe, after six service bytes.
 ghost use mathlib.Core.Path.{_≡_};
-ghost use Rattle.superframe.specs.State.{joinedState, freshState, serviceOf, stateInRange, lostWith, servicedWith};
+ghost use Rattle.superframe.specs.State.{joinedState, freshState, serviceOf, factorsInRange, stateInRange, lostWith, servicedWith};
 use service::Service;
 use service::range;
 
@@ -69,6 +69,15 @@ fn joined(next: [u8; 32], after: [u8; 32], service: Service) -> State
     }
 }
 
+fn factors_in_range(next: [u8; 32], after: [u8; 32]) -> bool
+    ensures { λ r. ⌜ r ≡ factorsInRange (record { next = next; after = after }) ⌝ }
+{
+    if range::all_below(&next, 9) {
+        return range::all_below(&after, 9);
+    }
+    false
+}
+
 impl State {
     // Both sets of factors missing, the service searching.
     pub fn fresh() -> Self
@@ -83,13 +92,10 @@ impl State {
     {
         let next = self.next;
         let after = self.after;
-        if !range::all_below(&next, 9) {
-            return false;
+        if factors_in_range(next, after) {
+            return service::in_range(service_of(self));
         }
-        if !range::all_below(&after, 9) {
-            return false;
-        }
-        service::in_range(service_of(self))
+        false
     }
 
     // One superframe is lost: the factors move on, and the service searches.

@@ -1,3 +1,5 @@
+-- `superframe::state::State::fresh` meets its contract. Assumes nothing.
+use Rattle.superframe.specs.State.{missing}
 use borrow.Author.Needs.{needs}
 use Rattle.superframe.proofs.state.State.fresh.Statement.{statement}
 use Rattle.superframe.proofs.state.State.fresh.Tie as tie
@@ -9,7 +11,8 @@ joined-requires : tie.Need-joined-requires
 joined-requires c κs = search needs
 
 returns : tie.Need-returns
-returns c = search needs
+unfolding missing
+returns c = rw (c .joined .ensures, c .before .searching .ensures)
 
 pub fresh-spec : {M : Type 1} → statement M
 fresh-spec = tie.close (tie.spec searching-requires joined-requires returns)
