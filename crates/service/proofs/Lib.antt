@@ -3,3 +3,4 @@ pub mod Ranges
 pub mod Syncs
 pub mod Unique
 pub mod Machine
+pub mod Progress

@@ -1,5 +1,6 @@
 -- Laws of tests that are joined, as a function's early returns join them.
 --     both, both-left, both-right     where the first test and then the second hold, and what each says
+--     either-way                      what holds of both answers holds of the one that a test picks
 -- Assumes nothing.
 use mathlib.Core.Path.{_≡_, refl}
 use mathlib.Core.Bool.{Bool, true, false, cond}
@@ -16,3 +17,7 @@ pub both-right : (a b : Bool) → cond a b false ≡ true → b ≡ true
 both-right true b h = h
 both-right false true h = refl
 both-right false false h = h
+
+pub either-way : {A : Type 0} (P : A → Type 0) (b : Bool) (x y : A) → P x → P y → P (cond b x y)
+either-way P true x y h k = h
+either-way P false x y h k = k
