@@ -4,3 +4,5 @@ pub mod Syncs
 pub mod Unique
 pub mod Machine
 pub mod Progress
+pub mod Orders
+pub mod Labels

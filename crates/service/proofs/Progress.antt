@@ -47,11 +47,11 @@ chosen p t true false s true h c z k = omega (arith, eqb-true p 8 c, ltb-true t 
 chosen p t true false s false h c z k = omega arith
 chosen p t false z s l h c e k = omega arith
 
-stage-bound : (p t : ℕ) (g : List ℕ) → t ≤ 8 → (stageAfter p t g ≤ 8) × (8 * stageAfter p t g ≤ 8 * t + p)
+pub stage-bound : (p t : ℕ) (g : List ℕ) → t ≤ 8 → (stageAfter p t g ≤ 8) × (8 * stageAfter p t g ≤ 8 * t + p)
 unfolding stageAfter
 stage-bound p t g h = chosen p t (eqb p 8) (eqb t 0) (separates g) (ltb t 8) h refl refl refl
 
-stage-waits : (p t : ℕ) (g : List ℕ) → p < 8 → stageAfter p t g ≡ t
+pub stage-waits : (p t : ℕ) (g : List ℕ) → p < 8 → stageAfter p t g ≡ t
 unfolding stageAfter
 stage-waits p t g h = rw (ne-eqb p 8 (λ e. omega arith))
 

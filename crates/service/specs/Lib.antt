@@ -4,3 +4,4 @@ pub mod Six
 pub mod Sync
 pub mod Service
 pub mod Run
+pub mod Broadcast
