@@ -6,3 +6,4 @@ pub mod Machine
 pub mod Progress
 pub mod Orders
 pub mod Labels
+pub mod Clean

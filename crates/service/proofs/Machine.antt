@@ -1,5 +1,6 @@
 -- The machine as document 01, "Service groups", tells it: one law for each of its sentences, over the whole step.
 --     InRange, in-range-true, in-range-fact      the range as a fact, and as the test has it
+--     first-kind, second-kind, neither-kind      the two syncs, and any other
 --     opened                   a group at its first position, with labels searched for
 --     served-is                an accepted step: the six bytes first, then the sync
 --     position-kept            the six bytes are handed on with the position that they came with
@@ -22,13 +23,14 @@ use Rattle.bits.specs.Digits.{Below}
 use Rattle.service.specs.Range.{allBelow}
 use Rattle.service.specs.Places.{zeros}
 use Rattle.service.specs.Six.{groupAfter, labelsAfter, stageAfter, separates, takeSix, isReady}
-use Rattle.service.specs.Sync.{sync1, sync2, same, kindOf, isOpen, continuesWith, dropsWith, nextPosition, takeSync}
+use Rattle.service.specs.Sync.{sync1, sync2, agree, kindOf, isOpen, continuesWith, dropsWith, nextPosition, takeSync}
 use Rattle.service.specs.Service.{inRange, accepts, stepBy, served, searchingService}
 use Rattle.service.specs.declared.Service.{Service}
 use Rattle.service.specs.declared.sync.Kind.{Kind}
 use Rattle.service.specs.declared.sync.Kind.the-variants.{First, Second, Neither}
 use Rattle.service.proofs.Tests.{both, both-left, both-right}
 use Rattle.service.proofs.Ranges.{Below-allBelow}
+use Rattle.service.proofs.Syncs.{disagree}
 
 pub record InRange (s : Service) : Type 0 where
   pub position : s .position ≤ 8
@@ -56,12 +58,16 @@ unfolding isOpen
 open-false p h = ⊎-elim (λ (e : p ≡ 0). rw e) (λ (e : p ≡ 8). rw e) h
 
 pub first-kind : kindOf sync1 ≡ First
-unfolding kindOf same
+unfolding kindOf agree
 first-kind = refl
 
 pub second-kind : kindOf sync2 ≡ Second
-unfolding kindOf same
+unfolding kindOf agree
 second-kind = refl
+
+pub neither-kind : (sync : List ℕ) → (sync ≡ sync1 → ⊥) → (sync ≡ sync2 → ⊥) → kindOf sync ≡ Neither
+unfolding kindOf
+neither-kind sync f g = rw (disagree sync sync1 f, disagree sync sync2 g)
 
 abbrev pub opened : Service
 opened = record { position = 1; group = zeros 32; stage = 0; labels = zeros 256 }
@@ -110,10 +116,10 @@ module _ (s : Service) (six : List ℕ) (h : InRange s) where
   unfolding takeSync takeSix searchingService
   second-dropped e = rw (served-second, open-false (s .position) e)
 
-  pub neither-searches : (sync : List ℕ) → Below 2 sync → kindOf sync ≡ Neither
+  pub neither-searches : (sync : List ℕ) → Below 2 sync → (sync ≡ sync1 → ⊥) → (sync ≡ sync2 → ⊥)
       → (served s six sync .number ≡ 7) × (served s six sync .next ≡ searchingService)
   unfolding takeSync takeSix searchingService
-  neither-searches sync b e = (rw (served-is sync b, e), rw (served-is sync b, e))
+  neither-searches sync b f g = let n = neither-kind sync f g in (rw (served-is sync b, n), rw (served-is sync b, n))
 
   -- ---- position 8 completes a group
   pub separator-found : s .position ≡ 8 → s .stage ≡ 0 → separates (takeSix s six .group) ≡ true → served s six sync1 .next .stage ≡ 1

@@ -1,6 +1,6 @@
 -- Taking the sync behind the six bytes at a position (document 01, "Service groups").
 --     sync1, sync2        the two syncs
---     same xs ys          whether two lists agree in every bit
+--     agree xs ys          whether two lists agree in every bit
 --     kindOf sync         which of the two it is, or neither
 --     isOpen p            a group is open behind position p: it has begun and is not complete
 --     nextPosition k p    the position of the next six bytes
@@ -25,14 +25,14 @@ sync1 = 0 ∷ 0 ∷ 0 ∷ 0 ∷ 0 ∷ 1 ∷ 0 ∷ 1 ∷ 1 ∷ 1 ∷ 0 ∷ 0 ∷ 
 abbrev pub sync2 : List ℕ
 sync2 = 0 ∷ 0 ∷ 0 ∷ 0 ∷ 0 ∷ 1 ∷ 0 ∷ 1 ∷ 1 ∷ 1 ∷ 1 ∷ 1 ∷ 1 ∷ 1 ∷ 1 ∷ 1 ∷ []
 
-unfoldable pub same : List ℕ → List ℕ → Bool
-same [] [] = true
-same [] (y ∷ ys) = false
-same (x ∷ xs) [] = false
-same (x ∷ xs) (y ∷ ys) = cond (eqb x y) (same xs ys) false
+unfoldable pub agree : List ℕ → List ℕ → Bool
+agree [] [] = true
+agree [] (y ∷ ys) = false
+agree (x ∷ xs) [] = false
+agree (x ∷ xs) (y ∷ ys) = cond (eqb x y) (agree xs ys) false
 
 unfoldable pub kindOf : List ℕ → Kind
-kindOf sync = cond (same sync sync1) First (cond (same sync sync2) Second Neither)
+kindOf sync = cond (agree sync sync1) First (cond (agree sync sync2) Second Neither)
 
 unfoldable pub isOpen : ℕ → Bool
 isOpen p = cond (ltb 0 p) (ltb p 8) false

@@ -1,7 +1,7 @@
 // Taking the sync behind six bytes: it opens a group, continues one, or drops.
 ghost use mathlib.Core.Path.{_≡_};
 ghost use mathlib.Core.Bool.{cond};
-ghost use Rattle.service.specs.Sync.{same, kindOf, isOpen, nextPosition, dropsWith, continuesWith, numberOf, takeSync};
+ghost use Rattle.service.specs.Sync.{agree, kindOf, isOpen, nextPosition, dropsWith, continuesWith, numberOf, takeSync};
 use crate::Service;
 use crate::places;
 
@@ -18,7 +18,7 @@ const SYNC_1: [u8; 16] = [0, 0, 0, 0, 0, 1, 0, 1, 1, 1, 0, 0, 1, 1, 1, 1];
 const SYNC_2: [u8; 16] = [0, 0, 0, 0, 0, 1, 0, 1, 1, 1, 1, 1, 1, 1, 1, 1];
 
 fn equal(a: [u8; 16], b: [u8; 16]) -> bool
-    ensures { λ r. ⌜ r ≡ same a b ⌝ }
+    ensures { λ r. ⌜ r ≡ agree a b ⌝ }
 {
     for i in 0..16usize {
         if a[i] != b[i] {
