@@ -7,14 +7,14 @@
 --     labels-come             the last six bytes bring the labels, whatever sync is behind them, and labels are searched for anew
 --     labels-not-before       none of the 71 superframes before hands out labels
 -- Assumes nothing.
-use mathlib.Core.Path.{_≡_, refl, sym, ap, subst, _∙_}
+use mathlib.Core.Path.{_≡_, refl, sym, ap, _∙_}
 use mathlib.Core.Logic.{_⊎_, inl, inr, ⊎-elim}
 use mathlib.Core.Bool.{Bool, true, false, cond}
 use mathlib.Core.List.{List, [], _∷_, _++_}
 use Prim.Native.Nat.{ℕ, zero, suc, _+_, _*_, _/_, _%_, _<_, _≤_}
 use native.Mathlib.Nat.{eq-or-lt-of-le}
 use native.Mathlib.Omega.{arith}
-use lib.Dec.{eqb, ltb}
+use lib.Dec.{eqb}
 use lib.ListN.{length, getD}
 use borrow.Author.Tests.{lt-ltb, eq-eqb, ne-eqb}
 use Rattle.bits.specs.Digits.{Below}
@@ -24,14 +24,14 @@ use Rattle.bits.proofs.Table.{length-tab, getD-tab, tab-ext, tab-getD}
 use Rattle.service.specs.Places.{zeros}
 use Rattle.service.specs.Six.{channelByte, groupAfter, charactersOf, labelByte, labelsAfter, stageAfter, separates, takeSix}
 use Rattle.service.specs.Sync.{sync1, sync2, isOpen, labelsWith, takeSync}
-use Rattle.service.specs.Service.{served, stepBy}
+use Rattle.service.specs.Service.{served}
 use Rattle.service.specs.Run.{Step, stepped, after}
-use Rattle.service.specs.Broadcast.{syncBehind, stepOf, broadcast, channelOf, labelsOf}
+use Rattle.service.specs.Broadcast.{syncBehind, stepOf, broadcast, channelOf, Separated, labelsOf}
 use Rattle.service.specs.declared.Service.{Service}
 use Rattle.service.specs.declared.sync.Kind.the-variants.{First, Second}
 use Rattle.service.proofs.Ranges.{Below-allBelow}
 use Rattle.service.proofs.Orders.{before-kept, at-comes}
-use Rattle.service.proofs.Machine.{InRange, open-true, open-false, served-first, served-second, position-kept, eighth-ends}
+use Rattle.service.proofs.Machine.{InRange, open-true, open-false, served-first, served-second, eighth-ends}
 use Rattle.service.proofs.Progress.{NoLabels, stage-waits, soon-none}
 
 pub after-snoc : (xs : List Step) (x : Step) (s : Service) → after s (xs ++ (x ∷ [])) ≡ stepped (after s xs) x .next
@@ -82,10 +82,12 @@ zero-or-more (suc n) = inr (omega arith)
 before-or-at : (n m : ℕ) {A : Type 0} → n ≤ m → A → (n < m) ⊎ ((n ≡ m) × A)
 before-or-at n m l x = ⊎-elim (λ (e : n ≡ m). inr (e, x)) (λ (u : n < m). inl u) (eq-or-lt-of-le l)
 
-labels-stay : (t : ℕ) (l : List ℕ) → 0 < t → labelsWith t l ≡ l
-labels-stay t l h = rw (lt-ltb 0 t h)
-
 module _ (sixes : ℕ → List ℕ) (k : ℕ) (t : Service) (a : Along sixes k t) (h : k < 71) where
+  -- the labels behind the sync, at the stage x that it leaves
+  labels-next : (x : ℕ) → x ≡ suc k / 8 → ((i : ℕ) → i % 8 + 1 < suc k / 8 → (i % 8 + 1 < k / 8) ⊎ ((i % 8 + 1 ≡ k / 8) × (k % 8 ≡ 7)))
+      → (i : ℕ) → i < 256 → i % 8 + 1 < suc k / 8 → getD (labelsWith x (takeSix t (sixes k) .labels)) i 0 ≡ channelOf sixes (i % 8 + 1) (i / 8)
+  labels-next x e came i l u = rw (lt-ltb 0 x (omega arith)) (labels-with sixes k t a i l (came i u))
+
   -- ---- a superframe inside a group
   inside-next : k % 8 < 7 → stepped t (stepOf sixes k) .next ≡ takeSync Second (takeSix t (sixes k))
   inside-next m =
@@ -97,14 +99,15 @@ module _ (sixes : ℕ → List ℕ) (k : ℕ) (t : Service) (a : Along sixes k t
   inside m =
       let p : t .position < 8 = omega (arith, a .position) in
       let goes-on : isOpen (t .position) ≡ true = open-true (t .position) (omega (arith, a .position)) p in
-      let stays : takeSync Second (takeSix t (sixes k)) .stage ≡ suc k / 8 = rw (goes-on, stage-waits (t .position) (t .stage) (takeSix t (sixes k) .group) p) (omega (arith, a .stage)) in
+      let waits : takeSix t (sixes k) .stage ≡ t .stage = stage-waits (t .position) (t .stage) (takeSix t (sixes k) .group) p in
+      let stays : takeSync Second (takeSix t (sixes k)) .stage ≡ suc k / 8 = rw (goes-on, waits) (omega (arith, a .stage)) in
       record {
         position = rw goes-on (omega (arith, a .position));
         stage = stays;
-        group = λ i l u. rw goes-on (group-with sixes k t a i l (omega arith) ∙ ap (λ (n : ℕ). channelOf sixes n i) (omega arith));
-        labels = λ i l u.
-            ap (λ (x : List ℕ). getD x i 0) (labels-stay (takeSync Second (takeSix t (sixes k)) .stage) (takeSix t (sixes k) .labels) (omega (arith, stays)))
-            ∙ labels-with sixes k t a i l (inl (omega arith));
+        group = λ i l u.
+            rw (goes-on, lt-ltb 1 (t .position + 1) (omega (arith, a .position)))
+            (group-with sixes k t a i l (omega arith) ∙ ap (λ (n : ℕ). channelOf sixes n i) (omega arith));
+        labels = labels-next _ stays (λ i u. inl (omega arith));
       }
 
   -- ---- a superframe that completes a group
@@ -113,7 +116,7 @@ module _ (sixes : ℕ → List ℕ) (k : ℕ) (t : Service) (a : Along sixes k t
       let behind : syncBehind k ≡ sync1 = rw (eq-eqb (k % 8) 7 m) in
       rw (behind, served-first t (sixes k) (along-range sixes k t a (omega arith)))
 
-  separated : ((c : ℕ) → c < 32 → channelOf sixes 0 c ≡ 0) → k ≡ 7 → separates (takeSix t (sixes k) .group) ≡ true
+  separated : Separated sixes → k ≡ 7 → separates (takeSix t (sixes k) .group) ≡ true
   unfolding takeSix groupAfter
   separated none e =
       let f : ℕ → ℕ = channelByte (t .position) (t .group) (sixes k) in
@@ -121,10 +124,11 @@ module _ (sixes : ℕ → List ℕ) (k : ℕ) (t : Service) (a : Along sixes k t
       (below-tab 1 32 f
       (λ i l.
       let first : k / 8 ≡ 0 = omega arith in
-      let nothing : f i ≡ 0 = sym (getD-tab 32 f i 0 l) ∙ group-with sixes k t a i l (omega arith) ∙ ap (λ (n : ℕ). channelOf sixes n i) first ∙ none i l in
+      let here : f i ≡ channelOf sixes (k / 8) i = sym (getD-tab 32 f i 0 l) ∙ group-with sixes k t a i l (omega arith) in
+      let nothing : f i ≡ 0 = here ∙ ap (λ (n : ℕ). channelOf sixes n i) first ∙ none i l in
       omega arith))
 
-  ended-stage : ((c : ℕ) → c < 32 → channelOf sixes 0 c ≡ 0) → k % 8 ≡ 7 → takeSix t (sixes k) .stage ≡ suc k / 8
+  ended-stage : Separated sixes → k % 8 ≡ 7 → takeSix t (sixes k) .stage ≡ suc k / 8
   unfolding takeSix stageAfter
   ended-stage none m =
       let complete : eqb (t .position) 8 ≡ true = eq-eqb (t .position) 8 (omega (arith, a .position)) in
@@ -136,7 +140,7 @@ module _ (sixes : ℕ → List ℕ) (k : ℕ) (t : Service) (a : Along sixes k t
       rw (complete, ne-eqb (t .stage) 0 (λ e. omega (arith, a .stage)), lt-ltb (t .stage) 8 (omega (arith, a .stage))) (omega (arith, a .stage)))
       (zero-or-more (k / 8))
 
-  ending : ((c : ℕ) → c < 32 → channelOf sixes 0 c ≡ 0) → k % 8 ≡ 7 → Along sixes (suc k) (takeSync First (takeSix t (sixes k)))
+  ending : Separated sixes → k % 8 ≡ 7 → Along sixes (suc k) (takeSync First (takeSix t (sixes k)))
   unfolding takeSync takeSix
   ending none m =
       let closed : isOpen (t .position) ≡ false = open-false (t .position) (inr (omega (arith, a .position))) in
@@ -145,12 +149,10 @@ module _ (sixes : ℕ → List ℕ) (k : ℕ) (t : Service) (a : Along sixes k t
         position = omega arith;
         stage = moved;
         group = λ i l u. let none : ⊥ = omega arith in absurd none;
-        labels = λ i l u.
-            ap (λ (x : List ℕ). getD x i 0) (labels-stay (takeSync First (takeSix t (sixes k)) .stage) (takeSix t (sixes k) .labels) (omega (arith, moved)))
-            ∙ labels-with sixes k t a i l (before-or-at (i % 8 + 1) (k / 8) (omega arith) m);
+        labels = labels-next _ moved (λ i u. before-or-at (i % 8 + 1) (k / 8) (omega arith) m);
       }
 
-  pub along-next : ((c : ℕ) → c < 32 → channelOf sixes 0 c ≡ 0) → Along sixes (suc k) (stepped t (stepOf sixes k) .next)
+  pub along-next : Separated sixes → Along sixes (suc k) (stepped t (stepOf sixes k) .next)
   along-next none =
       ⊎-elim (λ (m : k % 8 ≡ 7). rw (ending-next m) (ending none m)) (λ (m : k % 8 < 7). rw (inside-next m) (inside m)) (eq-or-lt-of-le (omega arith))
 
@@ -170,8 +172,16 @@ module _ (sixes : ℕ → List ℕ) (s : Service) (h : InRange s) (p : s .positi
     (none : (c : ℕ) → c < 32 → channelOf sixes 0 c ≡ 0) where
   pub along : (k : ℕ) → k ≤ 71 → Along sixes k (after s (broadcast sixes k))
   unfolding tabulate after
-  along zero l = record { position = p; stage = t; group = λ i r u. let no : ⊥ = omega arith in absurd no; labels = λ i r u. let no : ⊥ = omega arith in absurd no }
-  along (suc k) l = rw (after-snoc (broadcast sixes k) (stepOf sixes k) s) (along-next sixes k (after s (broadcast sixes k)) (along k (omega arith)) (omega arith) none)
+  along zero l =
+      record {
+        position = p;
+        stage = t;
+        group = λ i r u. let no : ⊥ = omega arith in absurd no;
+        labels = λ i r u. let no : ⊥ = omega arith in absurd no;
+      }
+  along (suc k) l =
+      rw (after-snoc (broadcast sixes k) (stepOf sixes k) s)
+      (along-next sixes k (after s (broadcast sixes k)) (along k (omega arith)) (omega arith) none)
 
   pub labels-not-before : (k : ℕ) → k < 71 → NoLabels (stepped (after s (broadcast sixes k)) (stepOf sixes k))
   labels-not-before k l = soon-none s h (omega arith) (broadcast sixes k) (rw (length-tab k (stepOf sixes)) (omega arith)) (stepOf sixes k)

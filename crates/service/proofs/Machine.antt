@@ -11,22 +11,21 @@
 --     neither-searches         a sync that is neither gives 7, drops, and sets searching
 --     separator-found, group-brings, eighth-ends      what the group does that position 8 completes, by the stage
 -- Assumes nothing.
-use mathlib.Core.Path.{_≡_, refl, sym, ap, _∙_}
+use mathlib.Core.Path.{_≡_, refl, _∙_}
 use mathlib.Core.Logic.{_⊎_, inr, ⊎-elim}
 use mathlib.Core.Bool.{Bool, true, false, cond}
 use mathlib.Core.List.{List}
 use Prim.Native.Nat.{ℕ, _+_, _<_, _≤_}
 use native.Mathlib.Omega.{arith}
 use lib.Dec.{eqb, leb, ltb}
-use borrow.Author.Tests.{leb-true, le-leb, lt-ltb, le-ltb, eq-eqb, ne-eqb}
+use borrow.Author.Tests.{leb-true, le-leb, lt-ltb, ne-eqb}
 use Rattle.bits.specs.Digits.{Below}
 use Rattle.service.specs.Range.{allBelow}
 use Rattle.service.specs.Places.{zeros}
-use Rattle.service.specs.Six.{groupAfter, labelsAfter, stageAfter, separates, takeSix, isReady}
-use Rattle.service.specs.Sync.{sync1, sync2, agree, kindOf, isOpen, continuesWith, dropsWith, nextPosition, takeSync}
+use Rattle.service.specs.Six.{groupAfter, stageAfter, separates, takeSix, isReady}
+use Rattle.service.specs.Sync.{sync1, sync2, agree, kindOf, isOpen, dropsWith, takeSync}
 use Rattle.service.specs.Service.{inRange, accepts, stepBy, served, searchingService}
 use Rattle.service.specs.declared.Service.{Service}
-use Rattle.service.specs.declared.sync.Kind.{Kind}
 use Rattle.service.specs.declared.sync.Kind.the-variants.{First, Second, Neither}
 use Rattle.service.proofs.Tests.{both, both-left, both-right}
 use Rattle.service.proofs.Ranges.{Below-allBelow}
@@ -110,7 +109,7 @@ module _ (s : Service) (six : List ℕ) (h : InRange s) where
         labels = takeSync Second (takeSix s six) .labels;
       }
   unfolding takeSync takeSix
-  second-continues l u = rw (served-second, open-true (s .position) l u)
+  second-continues l u = rw (served-second, open-true (s .position) l u, lt-ltb 1 (s .position + 1) (omega arith))
 
   pub second-dropped : (s .position ≡ 0) ⊎ (s .position ≡ 8) → served s six sync2 .next ≡ searchingService
   unfolding takeSync takeSix searchingService

@@ -1,25 +1,33 @@
 -- Laws of `allBelow`.
---     allBelow-drop         what is left of a list splits at its first entry, as a loop over it goes
+--     allBelow-more, allBelow-stop, allBelow-end     a loop over the list: the next entry is below, is not, or there is none
 --     allBelow-Below, Below-allBelow     the test and the fact that each entry is a digit in the base
 -- Assumes nothing.
 use mathlib.Core.Path.{_≡_, refl}
-use mathlib.Core.Bool.{true, false, cond}
+use mathlib.Core.Bool.{true, false}
 use mathlib.Core.List.{List, [], _∷_}
-use Prim.Native.Nat.{ℕ, suc, _+_, _<_}
+use Prim.Native.Nat.{ℕ, _+_, _<_, _≤_}
 use native.Mathlib.Numerals.{add-one}
 use lib.Dec.{ltb}
-use lib.ListN.{length, drop, getD}
+use lib.ListN.{length, drop, getD, drop-of-length-le}
 use lib.Seq.{drop-cons}
-use borrow.Author.Tests.{ltb-true, lt-ltb}
+use borrow.Author.Tests.{ltb-true, lt-ltb, le-ltb}
 use Rattle.bits.specs.Digits.{Below}
 use Rattle.service.specs.Range.{allBelow}
 use Rattle.service.proofs.Tests.{both, both-left, both-right}
 
 module _ (b : ℕ) where
-  pub allBelow-drop : (l : List ℕ) (i : ℕ) → i < length l
-      → allBelow b (drop i l) ≡ cond (ltb (getD l i 0) b) (allBelow b (drop (i + 1) l)) false
+  module _ (l : List ℕ) (i : ℕ) (h : i < length l) where
+    pub allBelow-more : getD l i 0 < b → allBelow b (drop i l) ≡ allBelow b (drop (i + 1) l)
+    unfolding allBelow
+    allBelow-more k = rw (add-one, drop-cons l i 0, lt-ltb (getD l i 0) b k)
+
+    pub allBelow-stop : b ≤ getD l i 0 → false ≡ allBelow b (drop i l)
+    unfolding allBelow
+    allBelow-stop k = rw (drop-cons l i 0, le-ltb (getD l i 0) b k)
+
+  pub allBelow-end : (l : List ℕ) (i : ℕ) → length l ≤ i → true ≡ allBelow b (drop i l)
   unfolding allBelow
-  allBelow-drop l i h = rw (add-one, drop-cons l i 0)
+  allBelow-end l i h = rw (drop-of-length-le l h)
 
   pub allBelow-Below : (l : List ℕ) → allBelow b l ≡ true → Below b l
   unfolding allBelow Below

@@ -1,28 +1,32 @@
 -- Laws of the syncs.
---     agree-drop, agree-end      what is left of two lists splits at their first entries; nothing is left
---     agree-refl, agree-eq, disagree     a list agrees with itself, and with no other
---     open-below, open-above   an open group is behind positions 1 to 7
+--     agree-more, agree-stop, agree-end     a loop over two lists: the next entries are equal, are not, or there are none
+--     agree-refl, agree-eq, disagree        a list agrees with itself, and with no other
+--     open-below, open-above                an open group is behind positions 1 to 7
 -- Assumes nothing.
-use mathlib.Core.Path.{_≡_, refl, sym, ap₂}
-use mathlib.Core.Bool.{Bool, true, false, cond}
+use mathlib.Core.Path.{_≡_, refl, ap₂}
+use mathlib.Core.Bool.{Bool, true, false}
 use mathlib.Core.List.{List, [], _∷_}
-use Prim.Native.Nat.{ℕ, suc, _+_, _<_, _≤_}
+use Prim.Native.Nat.{ℕ, _+_, _<_, _≤_}
 use native.Mathlib.Numerals.{add-one}
 use lib.Dec.{eqb, ltb}
 use lib.ListN.{length, drop, getD, drop-of-length-le}
 use lib.Seq.{drop-cons}
-use borrow.Author.Tests.{ltb-true, eqb-true, eq-eqb}
+use borrow.Author.Tests.{ltb-true, eqb-true, eq-eqb, ne-eqb}
 use Rattle.service.specs.Sync.{agree, isOpen}
 use Rattle.service.proofs.Tests.{both, both-left, both-right}
 
-pub agree-drop : (a b : List ℕ) (i : ℕ) → i < length a → i < length b
-    → agree (drop i a) (drop i b) ≡ cond (eqb (getD a i 0) (getD b i 0)) (agree (drop (i + 1) a) (drop (i + 1) b)) false
-unfolding agree
-agree-drop a b i h k = rw (add-one, drop-cons a i 0 h, drop-cons b i 0 k)
+module _ (a b : List ℕ) (i : ℕ) where
+  pub agree-more : i < length a → i < length b → getD a i 0 ≡ getD b i 0 → agree (drop i a) (drop i b) ≡ agree (drop (i + 1) a) (drop (i + 1) b)
+  unfolding agree
+  agree-more h k e = rw (add-one, drop-cons a i 0 h, drop-cons b i 0 k, eq-eqb (getD a i 0) (getD b i 0) e)
 
-pub agree-end : (a b : List ℕ) (i : ℕ) → length a ≤ i → length b ≤ i → agree (drop i a) (drop i b) ≡ true
-unfolding agree
-agree-end a b i h k = rw (drop-of-length-le a h, drop-of-length-le b k)
+  pub agree-stop : i < length a → i < length b → (getD a i 0 ≡ getD b i 0 → ⊥) → false ≡ agree (drop i a) (drop i b)
+  unfolding agree
+  agree-stop h k e = rw (drop-cons a i 0 h, drop-cons b i 0 k, ne-eqb (getD a i 0) (getD b i 0) e)
+
+  pub agree-end : length a ≤ i → length b ≤ i → true ≡ agree (drop i a) (drop i b)
+  unfolding agree
+  agree-end h k = rw (drop-of-length-le a h, drop-of-length-le b k)
 
 pub agree-refl : (a : List ℕ) → agree a a ≡ true
 unfolding agree

@@ -4,8 +4,10 @@
 --     stepOf sixes k          superframe k, with the six bytes that it brings
 --     broadcast sixes n       the first n superframes
 --     channelOf sixes n c     the byte of channel c in group n; group 0 is the separator
+--     Separated sixes         group 0 is a separator: all its channel bytes are 0
 --     labelsOf sixes          the labels: character n of channel c is its byte in group n, from 1 on
-use Prim.Native.Nat.{ℕ, _+_, _*_, _/_, _%_}
+use Prim.Native.Nat.{ℕ, _+_, _*_, _/_, _%_, _<_}
+use mathlib.Core.Path.{_≡_}
 use mathlib.Core.Bool.{cond}
 use mathlib.Core.List.{List}
 use lib.Dec.{eqb}
@@ -25,6 +27,9 @@ broadcast sixes n = tabulate n (stepOf sixes)
 
 abbrev pub channelOf : (ℕ → List ℕ) → ℕ → ℕ → ℕ
 channelOf sixes n c = getD (sixes (8 * n + c / 4)) (c % 4) 0
+
+abbrev pub Separated : (ℕ → List ℕ) → Type 0
+Separated sixes = (c : ℕ) → c < 32 → channelOf sixes 0 c ≡ 0
 
 abbrev pub labelsOf : (ℕ → List ℕ) → List ℕ
 labelsOf sixes = tabulate 256 (λ i. channelOf sixes (i % 8 + 1) (i / 8))

@@ -6,7 +6,7 @@
 --     stepBy s taken k      the answer: what the six bytes left is taken, then the sync of kind k
 --     served s six sync     the answer to any state, any six bytes and any 16 numbers
 use Prim.Native.Nat.{ℕ}
-use mathlib.Core.Bool.{Bool, true, false, cond}
+use mathlib.Core.Bool.{Bool, false, cond}
 use mathlib.Core.List.{List}
 use lib.Dec.{leb}
 use Rattle.service.specs.Range.{allBelow}

@@ -10,7 +10,7 @@
 --     isReady p t                the group that completes the labels
 --     takeSix s six              all of it; the position stays, for the sync to look at
 use Prim.Native.Nat.{ℕ, _+_, _/_, _%_}
-use mathlib.Core.Bool.{Bool, true, false, cond}
+use mathlib.Core.Bool.{Bool, false, cond}
 use mathlib.Core.List.{List}
 use lib.Dec.{eqb, ltb}
 use lib.ListN.{getD}

@@ -1,14 +1,14 @@
 -- Taking the sync behind the six bytes at a position (document 01, "Service groups").
 --     sync1, sync2        the two syncs
---     agree xs ys          whether two lists agree in every bit
+--     agree xs ys         whether two lists agree in every bit
 --     kindOf sync         which of the two it is, or neither
 --     isOpen p            a group is open behind position p: it has begun and is not complete
 --     nextPosition k p    the position of the next six bytes
 --     dropsWith k p       whether the open group or the sync itself is dropped
---     continuesWith k p   whether the open group goes on
 --     numberOf k          number 7 where it is neither
 --     stageWith k p t     the stage behind the sync
---     labelsWith t l      the labels at a stage: none while they are searched for
+--     groupWith q g       the group before a position: none before the first
+--     labelsWith t l      the labels before a stage: none while they are searched for
 --     takeSync k s        all of it
 use Prim.Native.Nat.{ℕ, _+_}
 use mathlib.Core.Bool.{Bool, true, false, cond, not}
@@ -49,11 +49,6 @@ dropsWith First p = isOpen p
 dropsWith Second p = not (isOpen p)
 dropsWith Neither p = true
 
-abbrev pub continuesWith : Kind → ℕ → Bool
-continuesWith First p = false
-continuesWith Second p = isOpen p
-continuesWith Neither p = false
-
 abbrev pub numberOf : Kind → ℕ
 numberOf First = 0
 numberOf Second = 0
@@ -63,6 +58,9 @@ numberOf Neither = 7
 abbrev pub stageWith : Kind → ℕ → ℕ → ℕ
 stageWith k p t = cond (dropsWith k p) 0 t
 
+abbrev pub groupWith : ℕ → List ℕ → List ℕ
+groupWith q g = cond (ltb 1 q) g (zeros 32)
+
 abbrev pub labelsWith : ℕ → List ℕ → List ℕ
 labelsWith t l = cond (ltb 0 t) l (zeros 256)
 
@@ -70,7 +68,7 @@ unfoldable pub takeSync : Kind → Service → Service
 takeSync k s =
     record {
       position = nextPosition k (s .position);
-      group = cond (continuesWith k (s .position)) (s .group) (zeros 32);
+      group = groupWith (nextPosition k (s .position)) (s .group);
       stage = stageWith k (s .position) (s .stage);
       labels = labelsWith (stageWith k (s .position) (s .stage)) (s .labels);
     }

@@ -1,7 +1,7 @@
 // Taking the sync behind six bytes: it opens a group, continues one, or drops.
 ghost use mathlib.Core.Path.{_≡_};
 ghost use mathlib.Core.Bool.{cond};
-ghost use Rattle.service.specs.Sync.{agree, kindOf, isOpen, nextPosition, dropsWith, continuesWith, numberOf, takeSync};
+ghost use Rattle.service.specs.Sync.{agree, kindOf, isOpen, nextPosition, dropsWith, numberOf, takeSync};
 use crate::Service;
 use crate::places;
 
@@ -69,16 +69,6 @@ fn drops(kind: Kind, position: u8) -> bool
     }
 }
 
-fn continues(kind: Kind, position: u8) -> bool
-    ensures { λ r. ⌜ r ≡ continuesWith kind position ⌝ }
-{
-    match kind {
-        Kind::First => false,
-        Kind::Second => is_open(position),
-        Kind::Neither => false,
-    }
-}
-
 pub(crate) fn number_of(kind: Kind) -> u8
     ensures { λ r. ⌜ r ≡ numberOf kind ⌝ }
 {
@@ -104,11 +94,12 @@ pub(crate) fn take(service: Service, kind: Kind) -> Service
     let position = service.position;
     let gathered = service.group;
     let written = service.labels;
-    let group = places::group_if(continues(kind, position), gathered);
+    let next = next_position(kind, position);
+    let group = places::group_if(1 < next, gathered);
     let stage = stage_unless(drops(kind, position), service.stage);
     let labels = places::labels_if(0 < stage, written);
     Service {
-        position: next_position(kind, position),
+        position: next,
         group,
         stage,
         labels,

@@ -8,18 +8,18 @@
 --     loss-none               behind a lost superframe 71 steps hand out none
 --     drop-none               behind a drop or a 7 too
 -- Assumes nothing.
-use mathlib.Core.Path.{_≡_, refl, ap, subst, sym, _∙_}
+use mathlib.Core.Path.{_≡_, refl, ap, _∙_}
 use mathlib.Core.Bool.{true, false}
 use mathlib.Core.List.{List, [], _∷_}
-use Prim.Native.Nat.{ℕ, _+_, _<_, _≤_}
+use Prim.Native.Nat.{ℕ, _<_, _≤_}
 use native.Mathlib.Omega.{arith}
 use lib.ListN.{length}
 use Rattle.bits.specs.Digits.{Below}
 use Rattle.service.specs.Places.{zeros}
 use Rattle.service.specs.Sync.{kindOf, dropsWith}
-use Rattle.service.specs.Service.{inRange, served, searchingService}
+use Rattle.service.specs.Service.{served, searchingService}
 use Rattle.service.specs.Run.{Step, stepped, after}
-use Rattle.service.specs.Broadcast.{stepOf, broadcast, channelOf, labelsOf}
+use Rattle.service.specs.Broadcast.{stepOf, broadcast, Separated, labelsOf}
 use Rattle.service.specs.declared.Service.{Service}
 use Rattle.service.proofs.Machine.{InRange, in-range-true, in-range-fact}
 use Rattle.service.proofs.Progress as progress
@@ -64,10 +64,12 @@ pub record NoLabels (r : Serviced) : Type 0 where
   pub complete : r .complete ≡ false
   pub labels : r .labels ≡ zeros 256
 
-none-above : (xs : List Step) (s : State) (x : Step) → stateInRange s ≡ true → progress.NoLabels (stepped (after (serviceOf s) xs) x) → NoLabels (taken (behind s xs) x)
+none-above : (xs : List Step) (s : State) (x : Step) → stateInRange s ≡ true → progress.NoLabels (stepped (after (serviceOf s) xs) x)
+    → NoLabels (taken (behind s xs) x)
 none-above xs s x h n = rw (taken-is xs s x h) (record { complete = n .complete; labels = n .labels })
 
-pub soon-none : (s : State) → stateInRange s ≡ true → progress.progress (serviceOf s) ≤ 1 → (xs : List Step) → length xs ≤ 70 → (x : Step) → NoLabels (taken (behind s xs) x)
+pub soon-none : (s : State) → stateInRange s ≡ true → progress.progress (serviceOf s) ≤ 1 → (xs : List Step) → length xs ≤ 70 → (x : Step)
+    → NoLabels (taken (behind s xs) x)
 soon-none s h l xs n x = none-above xs s x h (progress.soon-none (serviceOf s) (service-fact s h) l xs n x)
 
 module _ (s : State) (h : stateInRange s ≡ true) where
@@ -81,7 +83,7 @@ module _ (s : State) (h : stateInRange s ≡ true) where
       let reset = progress.drop-resets (serviceOf s) (y .six) (y .sync) (service-fact s h) b e in
       soon-none (taken s y .next) (taken-in-range s y h) (rw (serviced-is s (y .six) (y .sync) h) reset)
 
-  module _ (sixes : ℕ → List ℕ) (p : s .position ≡ 1) (t : s .stage ≡ 0) (none : (c : ℕ) → c < 32 → channelOf sixes 0 c ≡ 0) where
+  module _ (sixes : ℕ → List ℕ) (p : s .position ≡ 1) (t : s .stage ≡ 0) (none : Separated sixes) where
     pub labels-not-before : (k : ℕ) → k < 71 → NoLabels (taken (behind s (broadcast sixes k)) (stepOf sixes k))
     labels-not-before k l =
         none-above (broadcast sixes k) s (stepOf sixes k) h (machine.labels-not-before sixes (serviceOf s) (service-fact s h) p t none k l)

@@ -6,12 +6,12 @@
 --     lose-twice             two losses in a row give the fresh state
 --     service-keeps-factors  six service bytes change no factor
 -- Assumes nothing.
-use mathlib.Core.Path.{_≡_, refl, _∙_}
-use mathlib.Core.Bool.{Bool, true, false, cond}
+use mathlib.Core.Path.{_≡_, refl}
+use mathlib.Core.Bool.{true}
 use mathlib.Core.List.{List}
 use Prim.Native.Nat.{ℕ}
 use Rattle.service.specs.Range.{allBelow}
-use Rattle.service.specs.Service.{searchingService, inRange, refusedService, served}
+use Rattle.service.specs.Service.{searchingService, inRange}
 use Rattle.service.specs.declared.Service.{Service}
 use Rattle.service.proofs.Tests.{both, both-left, both-right}
 use Rattle.superframe.specs.State.{missing, Factors, factorsOf, serviceOf, joinedState, freshState, factorsInRange, stateInRange, lostFactors, lostState, lostWith, servicedWith}

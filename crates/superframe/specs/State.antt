@@ -13,7 +13,7 @@
 --     lostWith s            the answer to a loss: number 2 and the state as given where it is out of range
 --     servicedWith s six sync     the answer to six service bytes and a sync; the factors are as given
 use Prim.Native.Nat.{ℕ}
-use mathlib.Core.Bool.{Bool, true, false, cond}
+use mathlib.Core.Bool.{Bool, false, cond}
 use mathlib.Core.List.{List}
 use lib.ListN.{replicate}
 use Rattle.service.specs.Range.{allBelow}

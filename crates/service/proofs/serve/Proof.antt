@@ -45,7 +45,8 @@ returns-2 c =
     let ready = taken .before in
     let kind = ready .before in
     let tested = kind .before in
-    rw (c .number-of .ensures, next .take2 .ensures, labels .labels-if .ensures, taken .take .ensures, ready .ready .ensures, kind .kind-of .ensures, sym (tested .before .accepted .ensures) ∙ not-false _ (tested .if1 .left))
+    let yes = sym (tested .before .accepted .ensures) ∙ not-false _ (tested .if1 .left) in
+    rw (c .number-of .ensures, next .take2 .ensures, labels .labels-if .ensures, taken .take .ensures, ready .ready .ensures, kind .kind-of .ensures, yes)
 
 pub serve-spec : {M : Type 1} → statement M
 serve-spec =

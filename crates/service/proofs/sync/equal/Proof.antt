@@ -1,13 +1,10 @@
 -- `service::sync::equal` meets its contract: what the bits left say is what all of them say. Assumes nothing.
 use mathlib.Core.Path.{_≡_, refl, sym, _∙_}
-use mathlib.Core.Bool.{cond, false}
-use Prim.Native.Nat.{ℕ, _+_, _-_, _<_, _≤_}
+use Prim.Native.Nat.{_-_, _≤_}
 use native.Mathlib.Omega.{arith}
-use lib.Dec.{eqb}
-use lib.ListN.{length, drop, getD}
-use borrow.Author.Tests.{eq-eqb, ne-eqb}
+use lib.ListN.{drop}
 use Rattle.service.specs.Sync.{agree}
-use Rattle.service.proofs.Syncs.{agree-drop, agree-end}
+use Rattle.service.proofs.Syncs.{agree-more, agree-stop, agree-end}
 use borrow.Author.Needs.{needs}
 use Rattle.service.proofs.sync.equal.Statement.{statement}
 use Rattle.service.proofs.sync.equal.Tie as tie
@@ -27,14 +24,10 @@ array-read-if1 c = search needs
 array-read-if1-2 : tie.Need-array-read-if1-2 Inv-loop μ-loop
 array-read-if1-2 c = search needs
 
-at-first : (h : tie.At-loop Inv-loop μ-loop) → h .loop .i < 16
-    → agree (h .before .args .t1) (h .before .args .t2)
-    ≡ cond (eqb (getD (h .before .args .t1) (h .loop .i) 0) (getD (h .before .args .t2) (h .loop .i) 0)) (agree (drop (h .loop .i + 1) (h .before .args .t1)) (drop (h .loop .i + 1) (h .before .args .t2))) false
-at-first h l =
-    h .loop .inv .1 ∙ agree-drop (h .before .args .t1) (h .before .args .t2) (h .loop .i) (omega arith) (omega arith)
-
 returns : tie.Need-returns Inv-loop μ-loop
-returns c = sym (at-first (c .before .before) (c .before .loop-test .taken) ∙ rw (ne-eqb _ _ (c .if1 .taken)))
+returns c =
+    let h = c .before .before in
+    agree-stop _ _ (h .loop .i) (omega arith) (omega arith) (c .if1 .taken) ∙ sym (h .loop .inv .1)
 
 add-i : tie.Need-add-i Inv-loop μ-loop
 add-i c = search needs
@@ -44,12 +37,11 @@ loop-less c = search needs
 
 loop-again : tie.Need-loop-again Inv-loop μ-loop
 loop-again c =
-    (search needs, at-first (c .before .before) (c .before .loop-test .taken) ∙ rw (eq-eqb _ _ (c .if1 .left)))
+    let h = c .before .before in
+    (search needs, h .loop .inv .1 ∙ agree-more _ _ (h .loop .i) (omega arith) (omega arith) (c .if1 .left))
 
 returns-2 : tie.Need-returns-2 Inv-loop μ-loop
-returns-2 c =
-    let h = c .before in
-    sym (h .loop .inv .1 ∙ agree-end (h .before .args .t1) (h .before .args .t2) (h .loop .i) (omega arith) (omega arith))
+returns-2 c = let h = c .before in agree-end _ _ (h .loop .i) (omega arith) (omega arith) ∙ sym (h .loop .inv .1)
 
 pub equal-spec : {M : Type 1} → statement M
 equal-spec =

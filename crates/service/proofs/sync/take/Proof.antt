@@ -4,8 +4,8 @@ use borrow.Author.Needs.{needs}
 use Rattle.service.proofs.sync.take.Statement.{statement}
 use Rattle.service.proofs.sync.take.Tie as tie
 
-continues-requires : tie.Need-continues-requires
-continues-requires c κs = search needs
+next-position-requires : tie.Need-next-position-requires
+next-position-requires c κs = search needs
 
 group-if-requires : tie.Need-group-if-requires
 group-if-requires c κs = search needs
@@ -19,27 +19,22 @@ stage-unless-requires c κs = search needs
 labels-if-requires : tie.Need-labels-if-requires
 labels-if-requires c κs = search needs
 
-next-position-requires : tie.Need-next-position-requires
-next-position-requires c κs = search needs
-
 returns : tie.Need-returns
 unfolding takeSync
 returns c =
-    let labels = c .before in
-    let stage = labels .before in
+    let stage = c .before in
     let drops = stage .before in
     let group = drops .before in
-    let continues = group .before in
-    rw (c .next-position .ensures, labels .labels-if .ensures, stage .stage-unless .ensures, drops .drops .ensures, group .group-if .ensures, continues .continues .ensures)
+    let position = group .before in
+    rw (c .labels-if .ensures, stage .stage-unless .ensures, drops .drops .ensures, group .group-if .ensures, position .next-position .ensures)
 
 pub take-spec : {M : Type 1} → statement M
 take-spec =
     tie.close
     (tie.spec
-    continues-requires
+    next-position-requires
     group-if-requires
     drops-requires
     stage-unless-requires
     labels-if-requires
-    next-position-requires
     returns)

@@ -1,5 +1,5 @@
 -- `superframe::state::factors_in_range` meets its contract. Assumes nothing.
-use mathlib.Core.Path.{sym, ap, _∙_}
+use mathlib.Core.Path.{sym, _∙_}
 use borrow.Author.Needs.{needs}
 use Rattle.superframe.proofs.state.factors_in_range.Statement.{statement}
 use Rattle.superframe.proofs.state.factors_in_range.Tie as tie
