@@ -100,14 +100,14 @@ group-alike : (s s' : Service) (six : List ℕ) → Alike s s' → groupAfter (s
 unfolding groupAfter channelByte
 group-alike s s' six a =
     tab-ext 32 (channelByte (s .position) (s .group) six) (channelByte (s .position) (s' .group) six)
-    (λ i l. was-alike (s .position) (i / 4 + 1) (getD (s .group) i 0) (getD (s' .group) i 0) (getD six (i % 4) 0) (a .group i l))
+    (λ i l. was-alike (s .position) (i / 4 + 1) _ _ _ (a .group i l))
     ∙ ap (λ (p : ℕ). groupAfter p (s' .group) six) (a .position)
 
 labels-alike : (s s' : Service) (p : ℕ) (g : List ℕ) → Alike s s' → labelsAfter p (s .stage) (s .labels) g ≡ labelsAfter p (s' .stage) (s' .labels) g
 unfolding labelsAfter labelByte
 labels-alike s s' p g a =
     tab-ext 256 (labelByte (s .stage) (s .labels) (charactersOf p g)) (labelByte (s .stage) (s' .labels) (charactersOf p g))
-    (λ i l. was-alike (s .stage) (i % 8 + 1) (getD (s .labels) i 0) (getD (s' .labels) i 0) (getD (charactersOf p g) (i / 8) 0) (a .labels i l))
+    (λ i l. was-alike (s .stage) (i % 8 + 1) _ _ _ (a .labels i l))
     ∙ ap (λ (t : ℕ). labelsAfter p t (s' .labels) g) (a .stage)
 
 six-alike : (s s' : Service) (six : List ℕ) → Alike s s' → takeSix s six ≡ takeSix s' six
