@@ -1,10 +1,9 @@
 -- Any two results that meet a promise are the same: for each public method of the state, `METHOD-unique`. Assumes nothing.
 use mathlib.Core.Path.{_≡_}
-use mathlib.Core.Bool.{Bool}
 use mathlib.Core.List.{List}
 use Prim.Native.Nat.{ℕ}
 use Rattle.bits.proofs.Unique.{same}
-use Rattle.superframe.specs.State.{freshState, stateInRange, lostWith, servicedWith}
+use Rattle.superframe.specs.State.{freshState, lostWith, servicedWith}
 use Rattle.superframe.specs.declared.state.State.{State}
 use Rattle.superframe.specs.declared.state.Lost.{Lost}
 use Rattle.superframe.specs.declared.state.Serviced.{Serviced}
@@ -13,9 +12,6 @@ pub fresh-unique : (r r' : State) → r ≡ freshState → r' ≡ freshState →
 fresh-unique r r' = same
 
 module _ (s : State) where
-  pub in-range-unique : (r r' : Bool) → r ≡ stateInRange s → r' ≡ stateInRange s → r ≡ r'
-  in-range-unique r r' = same
-
   pub lose-unique : (r r' : Lost) → r ≡ lostWith s → r' ≡ lostWith s → r ≡ r'
   lose-unique r r' = same
 

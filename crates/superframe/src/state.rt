@@ -87,7 +87,7 @@ impl State {
     }
 
     // Whether every number is in its range.
-    pub fn in_range(self) -> bool
+    fn in_range(self) -> bool
         ensures { λ r. ⌜ r ≡ stateInRange self ⌝ }
     {
         let next = self.next;
