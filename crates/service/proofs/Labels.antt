@@ -168,8 +168,7 @@ spelt sixes t a =
     (λ i l. labels-with sixes 71 t a i l (before-or-at (i % 8 + 1) (71 / 8) (omega arith) refl))
 
 -- ---- the broadcast
-module _ (sixes : ℕ → List ℕ) (s : Service) (h : InRange s) (p : s .position ≡ 1) (t : s .stage ≡ 0)
-    (none : (c : ℕ) → c < 32 → channelOf sixes 0 c ≡ 0) where
+module _ (sixes : ℕ → List ℕ) (s : Service) (h : InRange s) (p : s .position ≡ 1) (t : s .stage ≡ 0) (none : Separated sixes) where
   pub along : (k : ℕ) → k ≤ 71 → Along sixes k (after s (broadcast sixes k))
   unfolding tabulate after
   along zero l =

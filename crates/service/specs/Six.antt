@@ -8,7 +8,8 @@
 --     labelsAfter p t l g        all 256
 --     stageAfter p t g           the stage that follows: the separator starts the first, a complete group each next, the eighth ends them
 --     isReady p t                the group that completes the labels
---     takeSix s six              all of it; the position stays, for the sync to look at
+--     takeSixInto s g            the state with the group g that the six bytes made; the position stays, for the sync to look at
+--     takeSix s six              all of it
 use Prim.Native.Nat.{ℕ, _+_, _/_, _%_}
 use mathlib.Core.Bool.{Bool, false, cond}
 use mathlib.Core.List.{List}

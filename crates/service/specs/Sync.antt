@@ -43,7 +43,7 @@ nextPosition First p = 1
 nextPosition Second p = cond (isOpen p) (p + 1) 0
 nextPosition Neither p = 0
 
--- a new Sync 1 before position 8 drops the open group; a Sync 2 with no group open is dropped; one that is neither drops
+-- a new Sync 1 before position 8 drops the open group; a Sync 2 with no group open, or after position 8, is dropped; one that is neither drops
 abbrev pub dropsWith : Kind → ℕ → Bool
 dropsWith First p = isOpen p
 dropsWith Second p = not (isOpen p)

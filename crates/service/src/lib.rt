@@ -45,6 +45,7 @@ pub fn searching() -> Service
     }
 }
 
+// Position and stage have a range, the bytes have none.
 pub fn in_range(service: Service) -> bool
     ensures { λ r. ⌜ r ≡ inRange service ⌝ }
 {
