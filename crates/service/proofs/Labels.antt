@@ -1,0 +1,196 @@
+-- Labels are handed out (document 01, "Service groups"): from any state in range that searches for labels and has position 1, a separator and the
+-- eight groups behind it, all syncs in order, hand out exactly the labels that they spell, with the last six bytes and not before.
+--     after-snoc              one step more
+--     Along k t               a state t behind the first k superframes of a broadcast: where the machine stands, and what it has gathered
+--     group-with, labels-with     what the group and the labels hold once the six bytes of superframe k are taken
+--     along-next              one superframe more
+--     labels-come             the last six bytes bring the labels, whatever sync is behind them, and labels are searched for anew
+--     labels-not-before       none of the 71 superframes before hands out labels
+-- Assumes nothing.
+use mathlib.Core.Path.{_≡_, refl, sym, ap, _∙_}
+use mathlib.Core.Logic.{_⊎_, inl, inr, ⊎-elim}
+use mathlib.Core.Bool.{Bool, true, false, cond}
+use mathlib.Core.List.{List, [], _∷_, _++_}
+use Prim.Native.Nat.{ℕ, zero, suc, _+_, _*_, _/_, _%_, _<_, _≤_}
+use native.Mathlib.Nat.{eq-or-lt-of-le}
+use native.Mathlib.Omega.{arith}
+use lib.Dec.{eqb}
+use lib.ListN.{length, getD}
+use borrow.Author.Tests.{lt-ltb, eq-eqb, ne-eqb}
+use Rattle.bits.specs.Digits.{Below}
+use Rattle.bits.specs.Table.{tabulate}
+use Rattle.bits.proofs.Digits.{below-tab}
+use Rattle.bits.proofs.Table.{length-tab, getD-tab, tab-ext, tab-getD}
+use Rattle.service.specs.Places.{zeros}
+use Rattle.service.specs.Six.{channelByte, groupAfter, charactersOf, labelByte, labelsAfter, stageAfter, separates, takeSix}
+use Rattle.service.specs.Sync.{sync1, sync2, isOpen, labelsWith, takeSync}
+use Rattle.service.specs.Service.{served}
+use Rattle.service.specs.Run.{Step, stepped, after}
+use Rattle.service.specs.Broadcast.{syncBehind, stepOf, broadcast, channelOf, Separated, labelsOf}
+use Rattle.service.specs.declared.Service.{Service}
+use Rattle.service.specs.declared.sync.Kind.the-variants.{First, Second}
+use Rattle.service.proofs.Ranges.{Below-allBelow}
+use Rattle.service.proofs.Orders.{before-kept, at-comes}
+use Rattle.service.proofs.Machine.{InRange, open-true, open-false, served-first, served-second, eighth-ends}
+use Rattle.service.proofs.Progress.{NoLabels, stage-waits, soon-none}
+
+pub after-snoc : (xs : List Step) (x : Step) (s : Service) → after s (xs ++ (x ∷ [])) ≡ stepped (after s xs) x .next
+unfolding after
+after-snoc [] x s = refl
+after-snoc (y ∷ xs) x s = after-snoc xs x (stepped s y .next)
+
+pub record Along (sixes : ℕ → List ℕ) (k : ℕ) (t : Service) : Type 0 where
+  pub position : t .position ≡ k % 8 + 1
+  pub stage : t .stage ≡ k / 8
+  pub group : (i : ℕ) → i < 32 → i / 4 < k % 8 → getD (t .group) i 0 ≡ channelOf sixes (k / 8) i
+  pub labels : (i : ℕ) → i < 256 → i % 8 + 1 < k / 8 → getD (t .labels) i 0 ≡ channelOf sixes (i % 8 + 1) (i / 8)
+
+module _ (sixes : ℕ → List ℕ) (k : ℕ) (t : Service) (a : Along sixes k t) where
+  pub along-range : k ≤ 71 → InRange t
+  along-range h = record { position = omega (arith, a .position); stage = omega (arith, a .stage) }
+
+  pub group-with : (i : ℕ) → i < 32 → i / 4 ≤ k % 8 → getD (takeSix t (sixes k) .group) i 0 ≡ channelOf sixes (k / 8) i
+  unfolding takeSix groupAfter channelByte
+  group-with i l h =
+      getD-tab 32 (channelByte (t .position) (t .group) (sixes k)) i 0 l
+      ∙ ⊎-elim
+      (λ (e : i / 4 ≡ k % 8).
+      let here : k ≡ 8 * (k / 8) + i / 4 = omega arith in
+      at-comes (t .position) (i / 4 + 1) _ _ (omega (arith, a .position)) ∙ ap (λ (n : ℕ). getD (sixes n) (i % 4) 0) here)
+      (λ (u : i / 4 < k % 8). before-kept (t .position) (i / 4 + 1) _ _ (omega (arith, a .position)) ∙ a .group i l u)
+      (eq-or-lt-of-le h)
+
+  pub labels-with : (i : ℕ) → i < 256 → (i % 8 + 1 < k / 8) ⊎ ((i % 8 + 1 ≡ k / 8) × (k % 8 ≡ 7))
+      → getD (takeSix t (sixes k) .labels) i 0 ≡ channelOf sixes (i % 8 + 1) (i / 8)
+  unfolding takeSix labelsAfter labelByte
+  labels-with i l h =
+      getD-tab 256 (labelByte (t .stage) (t .labels) (charactersOf (t .position) (takeSix t (sixes k) .group))) i 0 l
+      ∙ ⊎-elim
+      (λ (u : i % 8 + 1 < k / 8). before-kept (t .stage) (i % 8 + 1) _ _ (omega (arith, a .stage)) ∙ a .labels i l u)
+      (λ (e : (i % 8 + 1 ≡ k / 8) × (k % 8 ≡ 7)).
+      let complete : eqb (t .position) 8 ≡ true = eq-eqb (t .position) 8 (omega (arith, a .position)) in
+      at-comes (t .stage) (i % 8 + 1) _ _ (omega (arith, a .stage))
+      ∙ ap (λ (b : Bool). getD (cond b (takeSix t (sixes k) .group) (zeros 32)) (i / 8) 0) complete
+      ∙ group-with (i / 8) (omega arith) (omega arith)
+      ∙ ap (λ (n : ℕ). channelOf sixes n (i / 8)) (sym (e .0)))
+      h
+
+zero-or-more : (n : ℕ) → (n ≡ 0) ⊎ (0 < n)
+zero-or-more zero = inl refl
+zero-or-more (suc n) = inr (omega arith)
+
+before-or-at : (n m : ℕ) {A : Type 0} → n ≤ m → A → (n < m) ⊎ ((n ≡ m) × A)
+before-or-at n m l x = ⊎-elim (λ (e : n ≡ m). inr (e, x)) (λ (u : n < m). inl u) (eq-or-lt-of-le l)
+
+module _ (sixes : ℕ → List ℕ) (k : ℕ) (t : Service) (a : Along sixes k t) (h : k < 71) where
+  -- the labels behind the sync, at the stage x that it leaves
+  labels-next : (x : ℕ) → x ≡ suc k / 8 → ((i : ℕ) → i % 8 + 1 < suc k / 8 → (i % 8 + 1 < k / 8) ⊎ ((i % 8 + 1 ≡ k / 8) × (k % 8 ≡ 7)))
+      → (i : ℕ) → i < 256 → i % 8 + 1 < suc k / 8 → getD (labelsWith x (takeSix t (sixes k) .labels)) i 0 ≡ channelOf sixes (i % 8 + 1) (i / 8)
+  labels-next x e came i l u = rw (lt-ltb 0 x (omega arith)) (labels-with sixes k t a i l (came i u))
+
+  -- ---- a superframe inside a group
+  inside-next : k % 8 < 7 → stepped t (stepOf sixes k) .next ≡ takeSync Second (takeSix t (sixes k))
+  inside-next m =
+      let behind : syncBehind k ≡ sync2 = rw (ne-eqb (k % 8) 7 (λ e. omega arith)) in
+      rw (behind, served-second t (sixes k) (along-range sixes k t a (omega arith)))
+
+  inside : k % 8 < 7 → Along sixes (suc k) (takeSync Second (takeSix t (sixes k)))
+  unfolding takeSync takeSix
+  inside m =
+      let p : t .position < 8 = omega (arith, a .position) in
+      let goes-on : isOpen (t .position) ≡ true = open-true (t .position) (omega (arith, a .position)) p in
+      let waits : takeSix t (sixes k) .stage ≡ t .stage = stage-waits (t .position) (t .stage) (takeSix t (sixes k) .group) p in
+      let stays : takeSync Second (takeSix t (sixes k)) .stage ≡ suc k / 8 = rw (goes-on, waits) (omega (arith, a .stage)) in
+      record {
+        position = rw goes-on (omega (arith, a .position));
+        stage = stays;
+        group = λ i l u.
+            rw (goes-on, lt-ltb 1 (t .position + 1) (omega (arith, a .position)))
+            (group-with sixes k t a i l (omega arith) ∙ ap (λ (n : ℕ). channelOf sixes n i) (omega arith));
+        labels = labels-next _ stays (λ i u. inl (omega arith));
+      }
+
+  -- ---- a superframe that completes a group
+  ending-next : k % 8 ≡ 7 → stepped t (stepOf sixes k) .next ≡ takeSync First (takeSix t (sixes k))
+  ending-next m =
+      let behind : syncBehind k ≡ sync1 = rw (eq-eqb (k % 8) 7 m) in
+      rw (behind, served-first t (sixes k) (along-range sixes k t a (omega arith)))
+
+  separated : Separated sixes → k ≡ 7 → separates (takeSix t (sixes k) .group) ≡ true
+  unfolding takeSix groupAfter
+  separated none e =
+      let f : ℕ → ℕ = channelByte (t .position) (t .group) (sixes k) in
+      Below-allBelow 1 (tabulate 32 f)
+      (below-tab 1 32 f
+      (λ i l.
+      let first : k / 8 ≡ 0 = omega arith in
+      let here : f i ≡ channelOf sixes (k / 8) i = sym (getD-tab 32 f i 0 l) ∙ group-with sixes k t a i l (omega arith) in
+      let nothing : f i ≡ 0 = here ∙ ap (λ (n : ℕ). channelOf sixes n i) first ∙ none i l in
+      omega arith))
+
+  ended-stage : Separated sixes → k % 8 ≡ 7 → takeSix t (sixes k) .stage ≡ suc k / 8
+  unfolding takeSix stageAfter
+  ended-stage none m =
+      let complete : eqb (t .position) 8 ≡ true = eq-eqb (t .position) 8 (omega (arith, a .position)) in
+      ⊎-elim
+      (λ (e : k / 8 ≡ 0).
+      let seven : k ≡ 7 = omega arith in
+      rw (complete, eq-eqb (t .stage) 0 (omega (arith, a .stage)), separated none seven) (omega arith))
+      (λ (l : 0 < k / 8).
+      rw (complete, ne-eqb (t .stage) 0 (λ e. omega (arith, a .stage)), lt-ltb (t .stage) 8 (omega (arith, a .stage))) (omega (arith, a .stage)))
+      (zero-or-more (k / 8))
+
+  ending : Separated sixes → k % 8 ≡ 7 → Along sixes (suc k) (takeSync First (takeSix t (sixes k)))
+  unfolding takeSync takeSix
+  ending none m =
+      let closed : isOpen (t .position) ≡ false = open-false (t .position) (inr (omega (arith, a .position))) in
+      let moved : takeSync First (takeSix t (sixes k)) .stage ≡ suc k / 8 = rw closed (ended-stage none m) in
+      record {
+        position = omega arith;
+        stage = moved;
+        group = λ i l u. let none : ⊥ = omega arith in absurd none;
+        labels = labels-next _ moved (λ i u. before-or-at (i % 8 + 1) (k / 8) (omega arith) m);
+      }
+
+  pub along-next : Separated sixes → Along sixes (suc k) (stepped t (stepOf sixes k) .next)
+  along-next none =
+      ⊎-elim (λ (m : k % 8 ≡ 7). rw (ending-next m) (ending none m)) (λ (m : k % 8 < 7). rw (inside-next m) (inside m)) (eq-or-lt-of-le (omega arith))
+
+length-labels : (t : Service) (six : List ℕ) → length (takeSix t six .labels) ≡ 256
+unfolding takeSix labelsAfter
+length-labels t six = length-tab 256 (labelByte (t .stage) (t .labels) (charactersOf (t .position) (takeSix t six .group)))
+
+-- what the last six bytes complete
+spelt : (sixes : ℕ → List ℕ) (t : Service) → Along sixes 71 t → takeSix t (sixes 71) .labels ≡ labelsOf sixes
+spelt sixes t a =
+    tab-getD 256 (takeSix t (sixes 71) .labels) 0 (length-labels t (sixes 71))
+    ∙ tab-ext 256 (λ i. getD (takeSix t (sixes 71) .labels) i 0) (λ i. channelOf sixes (i % 8 + 1) (i / 8))
+    (λ i l. labels-with sixes 71 t a i l (before-or-at (i % 8 + 1) (71 / 8) (omega arith) refl))
+
+-- ---- the broadcast
+module _ (sixes : ℕ → List ℕ) (s : Service) (h : InRange s) (p : s .position ≡ 1) (t : s .stage ≡ 0) (none : Separated sixes) where
+  pub along : (k : ℕ) → k ≤ 71 → Along sixes k (after s (broadcast sixes k))
+  unfolding tabulate after
+  along zero l =
+      record {
+        position = p;
+        stage = t;
+        group = λ i r u. let no : ⊥ = omega arith in absurd no;
+        labels = λ i r u. let no : ⊥ = omega arith in absurd no;
+      }
+  along (suc k) l =
+      rw (after-snoc (broadcast sixes k) (stepOf sixes k) s)
+      (along-next sixes k (after s (broadcast sixes k)) (along k (omega arith)) (omega arith) none)
+
+  pub labels-not-before : (k : ℕ) → k < 71 → NoLabels (stepped (after s (broadcast sixes k)) (stepOf sixes k))
+  labels-not-before k l = soon-none s h (omega arith) (broadcast sixes k) (rw (length-tab k (stepOf sixes)) (omega arith)) (stepOf sixes k)
+
+  pub labels-come : (sync : List ℕ) → Below 2 sync
+      → (served (after s (broadcast sixes 71)) (sixes 71) sync .complete ≡ true)
+      × (served (after s (broadcast sixes 71)) (sixes 71) sync .labels ≡ labelsOf sixes)
+      × (served (after s (broadcast sixes 71)) (sixes 71) sync .next .stage ≡ 0)
+  labels-come sync b =
+      let end : Service = after s (broadcast sixes 71) in
+      let a : Along sixes 71 end = along 71 (omega arith) in
+      let r = eighth-ends end (sixes 71) (along-range sixes 71 end a (omega arith)) sync b (a .position) (a .stage) in
+      (r .0, r .1 ∙ spelt sixes end a, r .2)

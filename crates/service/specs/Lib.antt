@@ -1,0 +1,7 @@
+pub mod Range
+pub mod Places
+pub mod Six
+pub mod Sync
+pub mod Service
+pub mod Run
+pub mod Broadcast

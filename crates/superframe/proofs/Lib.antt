@@ -1,0 +1,3 @@
+pub mod Loss
+pub mod Labels
+pub mod Unique

@@ -1,0 +1,18 @@
+-- `superframe::state::State::fresh` meets its contract. Assumes nothing.
+use Rattle.superframe.specs.State.{missing}
+use borrow.Author.Needs.{needs}
+use Rattle.superframe.proofs.state.State.fresh.Statement.{statement}
+use Rattle.superframe.proofs.state.State.fresh.Tie as tie
+
+searching-requires : tie.Need-searching-requires
+searching-requires c κs = search needs
+
+joined-requires : tie.Need-joined-requires
+joined-requires c κs = search needs
+
+returns : tie.Need-returns
+unfolding missing
+returns c = rw (c .joined .ensures, c .before .searching .ensures)
+
+pub fresh-spec : {M : Type 1} → statement M
+fresh-spec = tie.close (tie.spec searching-requires joined-requires returns)

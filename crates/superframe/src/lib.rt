@@ -1,0 +1,6 @@
+// The reader's state and what it does with a superframe (document 01, "Superframe").
+mod state;
+
+pub use state::Lost;
+pub use state::Serviced;
+pub use state::State;
