@@ -1,0 +1,4 @@
+pub mod Seek
+pub mod Fixed
+pub mod Demand
+pub mod Vectors

@@ -1,0 +1,1 @@
+// Reading within a radius: the definitions and theorems of this crate are for the crates above it.

@@ -1,0 +1,7 @@
+pub mod Sum
+pub mod Division
+pub mod Columns
+pub mod Ones
+pub mod Parity
+pub mod Register
+pub mod Unique

@@ -1,0 +1,3 @@
+pub mod Polynomial
+pub mod Remainder
+pub mod Columns
