@@ -1,0 +1,6 @@
+pub mod Every
+pub mod Rows
+pub mod Interleave
+pub mod Parts
+pub mod Sync
+pub mod Writing

@@ -1,0 +1,55 @@
+-- What reading a main frame answers (document 01, "Main frame" and "Numbers given").
+--     wrongSync letter bytes     in how many of the first eleven bits the bytes differ from the letter's sync word; bits past the end are 0
+--     mostWrong                  how many wrong bits a sync may have: it must match in all eleven
+--     serviceRead letter bytes   bit 12 of A; in B it is ignored, and 0 is handed out
+--     blockOf bytes b            block b + 1; bits past the end of the bytes are 0, and so is all of a block that a frame does not have
+--     nothing n                  number n, and zeros in every other place
+--     blocksOf r                 the four blocks of an answer
+--     readFrame letter bytes     THE ANSWER: number 1 for another length than 40 bytes, then 3 for a wrong sync
+use mathlib.Core.Bool.{cond}
+use mathlib.Core.List.{List, [], _∷_}
+use Prim.Native.Nat.{ℕ}
+use lib.Dec.{eqb, leb, ltb}
+use lib.ListN.{length}
+use Rattle.bits.specs.Table.{tabulate}
+use Rattle.bits.specs.Bits.{bitAt, bitsOf}
+use Rattle.remainder.specs.Polynomial.{zeros}
+use Rattle.code.specs.Words.{distance}
+use Rattle.frame.specs.Frame.{syncWord, deinterleave}
+use Rattle.frame.specs.declared.FrameRead.{FrameRead}
+use Rattle.frame.specs.declared.Letter.{Letter}
+use Rattle.frame.specs.declared.Letter.the-variants.{A, B}
+
+unfoldable pub wrongSync : Letter → List ℕ → ℕ
+wrongSync letter bytes = distance (syncWord letter) (tabulate 11 (bitAt bytes))
+
+abbrev pub mostWrong : ℕ
+mostWrong = 0
+
+unfoldable pub serviceRead : Letter → List ℕ → ℕ
+serviceRead A bytes = bitAt bytes 11
+serviceRead B bytes = 0
+
+unfoldable pub blockOf : List ℕ → ℕ → List ℕ
+blockOf bytes b = cond (ltb b 4) (deinterleave (bitsOf bytes) b) (zeros 77)
+
+unfoldable pub nothing : ℕ → FrameRead
+nothing n = record { number = n; service = 0; first = zeros 77; second = zeros 77; third = zeros 77; fourth = zeros 77 }
+
+abbrev pub blocksOf : FrameRead → List (List ℕ)
+blocksOf r = r .first ∷ r .second ∷ r .third ∷ r .fourth ∷ []
+
+unfoldable pub readFrame : Letter → List ℕ → FrameRead
+readFrame letter bytes =
+    cond (eqb (length bytes) 40)
+    (cond (leb (wrongSync letter bytes) mostWrong)
+    (record {
+      number = 0;
+      service = serviceRead letter bytes;
+      first = blockOf bytes 0;
+      second = blockOf bytes 1;
+      third = blockOf bytes 2;
+      fourth = blockOf bytes 3;
+    })
+    (nothing 3))
+    (nothing 1)
