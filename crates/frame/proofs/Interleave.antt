@@ -1,6 +1,7 @@
 -- Laws of two rows that are interleaved.
---     length-interleave, below-interleave    how long they are together; bits stay bits
---     interleave-even, interleave-odd        the first row stands at the even places, counted from 0, and the second at the odd ones
+--     length-interleave                  how long they are together
+--     interleave-even, interleave-odd    the first row stands at the even places, counted from 0, and the second at the odd ones
+--     below-interleave                   bits stay bits
 -- Assumes nothing.
 use mathlib.Core.Path.{_≡_, refl, ap, _∙_}
 use mathlib.Core.List.{List, [], _∷_}
@@ -15,12 +16,6 @@ unfolding interleave
 length-interleave [] q e = refl
 length-interleave (x ∷ p) [] e = absurd (omega arith)
 length-interleave (x ∷ p) (y ∷ q) e = let rest = length-interleave p q (omega arith) in omega arith
-
-pub below-interleave : (p q : List ℕ) → Below 2 p → Below 2 q → Below 2 (interleave p q)
-unfolding interleave Below
-below-interleave [] q h k = tt
-below-interleave (x ∷ p) [] h k = tt
-below-interleave (x ∷ p) (y ∷ q) h k = (h .0, (k .0, below-interleave p q (h .1) (k .1)))
 
 pub interleave-even : (p q : List ℕ) (j : ℕ) → length p ≡ length q → getD (interleave p q) (2 * j) 0 ≡ getD p j 0
 unfolding interleave
@@ -40,3 +35,9 @@ interleave-odd (x ∷ p) (y ∷ q) zero e = refl
 interleave-odd (x ∷ p) (y ∷ q) (suc j) e =
     let two : 2 * suc j + 1 ≡ suc (suc (2 * j + 1)) = omega arith in
     ap (λ (k : ℕ). getD (interleave (x ∷ p) (y ∷ q)) k 0) two ∙ interleave-odd p q j (omega arith)
+
+pub below-interleave : (p q : List ℕ) → Below 2 p → Below 2 q → Below 2 (interleave p q)
+unfolding interleave Below
+below-interleave [] q h k = tt
+below-interleave (x ∷ p) [] h k = tt
+below-interleave (x ∷ p) (y ∷ q) h k = (h .0, (k .0, below-interleave p q (h .1) (k .1)))

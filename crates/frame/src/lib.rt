@@ -4,9 +4,9 @@ ghost use mathlib.Core.List.{[], _∷_, _++_};
 ghost use lib.ListN.{length};
 ghost use Rattle.bits.specs.Table.{every};
 ghost use Rattle.bits.specs.Bits.{bytesOf};
-ghost use Rattle.frame.specs.Frame.{syncWord, serviceSent, interleave};
+ghost use Rattle.frame.specs.Frame.{syncWord, serviceIn, interleave};
 ghost use Rattle.frame.specs.Read.{wrongSync, serviceRead, blockOf, nothing, readFrame};
-ghost use Rattle.frame.specs.Write.{isBit, goodValues, Written};
+ghost use Rattle.frame.specs.Write.{isBit, goodValues, writeNumber, Written};
 
 pub enum Letter {
     A,
@@ -53,14 +53,21 @@ pub fn sync_errors(letter: Letter, bytes: &[u8]) -> u8
     wrong
 }
 
-// The service bit; in B it is 0 whatever stands there.
+// What a frame of a letter carries of a service bit: B carries none, it is written 0 and handed out as 0.
+fn carried(letter: Letter, service: u8) -> u8
+    ensures { λ r. ⌜ r ≡ serviceIn letter service ⌝ }
+{
+    match letter {
+        Letter::A => service,
+        Letter::B => 0,
+    }
+}
+
+// Bit 12 of A; 0 for B.
 pub fn service_of(letter: Letter, bytes: &[u8]) -> u8
     ensures { λ r. ⌜ r ≡ serviceRead letter (now (bytes .entry)) ⌝ }
 {
-    match letter {
-        Letter::A => bits::bit_of(bytes, 11),
-        Letter::B => 0,
-    }
+    carried(letter, bits::bit_of(bytes, 11))
 }
 
 // Block b, counted from 0, out of its pair; zeros where a frame has no such block.
@@ -139,16 +146,6 @@ fn interleaved(lower: [u8; 77], higher: [u8; 77]) -> [u8; 154]
     out
 }
 
-// What is written for a service bit: B carries none.
-fn service_sent(letter: Letter, service: u8) -> u8
-    ensures { λ r. ⌜ r ≡ serviceSent letter service ⌝ }
-{
-    match letter {
-        Letter::A => service,
-        Letter::B => 0,
-    }
-}
-
 // All 320 bits, of the service bit as it is sent and two interleaved pairs.
 fn joined(letter: Letter, service: u8, front: [u8; 154], back: [u8; 154]) -> [u8; 320]
     ensures { λ r. ⌜ r ≡ syncWord letter ++ (service ∷ (front ++ back)) ⌝ }
@@ -208,6 +205,27 @@ fn are_values(
     are_bits(&fourth)
 }
 
+// The number that writing into a buffer of some size gives.
+fn write_number(
+    size: usize,
+    service: u8,
+    first: [u8; 77],
+    second: [u8; 77],
+    third: [u8; 77],
+    fourth: [u8; 77],
+) -> u8
+    ensures { λ r. ⌜ r ≡ writeNumber size service (first ∷ second ∷ third ∷ fourth ∷ []) ⌝ }
+{
+    if size != 40 {
+        return 1;
+    }
+    if are_values(service, first, second, third, fourth) {
+        0
+    } else {
+        2
+    }
+}
+
 pub fn write(
     letter: Letter,
     service: u8,
@@ -219,19 +237,14 @@ pub fn write(
 ) -> u8
     ensures { λ r. ⌜ Written letter service (first ∷ second ∷ third ∷ fourth ∷ []) (now (out .entry)) r (now (out .exit)) ⌝ }
 {
-    if out.len() != 40 {
-        return 1;
+    let number = write_number(out.len(), service, first, second, third, fourth);
+    if number != 0 {
+        return number;
     }
-    if !are_values(service, first, second, third, fourth) {
-        return 2;
-    }
-    let sent = service_sent(letter, service);
-    let bits = joined(
-        letter,
-        sent,
-        interleaved(first, second),
-        interleaved(third, fourth),
-    );
+    let sent = carried(letter, service);
+    let front = interleaved(first, second);
+    let back = interleaved(third, fourth);
+    let bits = joined(letter, sent, front, back);
     fill(bits, &mut *out);
-    0
+    number
 }

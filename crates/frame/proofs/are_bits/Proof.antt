@@ -1,6 +1,5 @@
 -- `frame::are_bits` meets its contract: what is left of the test is the test over the entries left. Assumes nothing.
 use mathlib.Core.Path.{_≡_, refl, sym, _∙_}
-use mathlib.Core.Bool.{true, false}
 use Prim.Native.Nat.{ℕ, _-_, _≤_}
 use native.Mathlib.Omega.{arith}
 use borrow.Author.Tests.{le-leb, lt-leb}
@@ -30,7 +29,7 @@ returns c =
     let at-loop = c .before .before .before in
     let entries = at-loop .before .args .entries .now in
     let i : ℕ = at-loop .loop .i in
-    sym (at-loop .loop .inv .1 ∙ every-stop isBit entries i 0 (omega arith) (lt-leb (getD entries i 0) 1 (c .if1 .taken)))
+    sym (at-loop .loop .inv .1 ∙ every-stop isBit entries i 0 (omega arith) (lt-leb (getD entries i 0) 1 (omega arith)))
 
 add-i : tie.Need-add-i Inv-loop μ-loop
 add-i c = search needs
@@ -44,7 +43,7 @@ loop-again c =
     let at-loop = c .before .before .before in
     let entries = at-loop .before .args .entries .now in
     let i : ℕ = at-loop .loop .i in
-    (search needs, at-loop .loop .inv .1 ∙ every-step isBit entries i 0 (omega arith) (le-leb (getD entries i 0) 1 (c .if1 .left)))
+    (search needs, at-loop .loop .inv .1 ∙ every-step isBit entries i 0 (omega arith) (le-leb (getD entries i 0) 1 (omega arith)))
 
 returns-2 : tie.Need-returns-2 Inv-loop μ-loop
 unfolding every

@@ -1,12 +1,12 @@
 -- `frame::block_of` meets its contract: the first j bits are gathered. Assumes nothing.
 use borrow.Author.Tests.{le-ltb, lt-ltb}
 use mathlib.Core.Path.{_≡_, refl, sym, ap, _∙_}
-use Prim.Native.Nat.{ℕ, _+_, _-_, _*_, _/_, _%_, _<_, _≤_}
+use Prim.Native.Nat.{ℕ, _-_, _≤_}
 use native.Mathlib.Omega.{arith}
 use lib.ListN.{length, getD, take}
 use Rattle.bits.specs.Table.{tabulate}
 use Rattle.bits.specs.Bits.{bitAt, bitsOf}
-use Rattle.bits.proofs.Table.{tab-more, tab-done, tab-none}
+use Rattle.bits.proofs.Table.{tab-more, tab-done}
 use Rattle.frame.specs.Frame.{placeOf, deinterleave}
 use Rattle.frame.specs.Read.{blockOf}
 use Rattle.frame.proofs.Rows.{bitsOf-at}
@@ -16,14 +16,14 @@ use Rattle.frame.proofs.block_of.Tie as tie
 
 abbrev Inv-loop : tie.InvT-loop
 Inv-loop bytes b out₀ start j₀ out j =
-    (j ≤ 77) × (length out ≡ 77) × (start ≡ 12 + 154 * (b / 2) + b % 2) × (take j out ≡ tabulate j (λ j. getD (bitsOf bytes) (placeOf b j) 0))
+    (j ≤ 77) × (length out ≡ 77) × (take j out ≡ tabulate j (λ j. getD (bitsOf bytes) (placeOf b j) 0))
 
 abbrev μ-loop : tie.MeasureT-loop
 μ-loop bytes b out₀ start j₀ out j = 77 - j
 
 returns : tie.Need-returns Inv-loop μ-loop
 unfolding blockOf
-returns c = rw (le-ltb (c .before .before .args .b) 4 (c .if1 .taken))
+returns c = rw (le-ltb (c .before .before .args .b) 4 (omega arith))
 
 mul-start : tie.Need-mul-start Inv-loop μ-loop
 mul-start c = search needs
@@ -36,7 +36,7 @@ add-start-2 c = search needs
 
 loop-holds : tie.Need-loop-holds Inv-loop μ-loop
 unfolding tabulate
-loop-holds c = (search needs, search needs, search needs, refl)
+loop-holds c = (search needs, search needs, refl)
 
 mul-bit-of : tie.Need-mul-bit-of Inv-loop μ-loop
 mul-bit-of c = search needs
@@ -62,11 +62,12 @@ loop-again c =
     let a = at-loop .before .before .before .args in
     let bits = bitsOf (a .bytes .now) in
     let j : ℕ = at-loop .loop .j in
-    let bit : c .bit-of .result ≡ getD bits (placeOf (a .b) j) 0 = c .bit-of .ensures ∙ sym (bitsOf-at (a .bytes .now) (placeOf (a .b) j)) in (
+    let bit : c .bit-of .result ≡ getD bits (placeOf (a .b) j) 0 =
+    c .bit-of .ensures ∙ ap (bitAt (a .bytes .now)) (omega arith) ∙ sym (bitsOf-at (a .bytes .now) (placeOf (a .b) j))
+    in (
       search needs,
       search needs,
-      search needs,
-      tab-more (λ j. getD bits (placeOf (a .b) j) 0) (at-loop .loop .out) j (c .bit-of .result) (omega arith) (at-loop .loop .inv .3) bit,
+      tab-more (λ j. getD bits (placeOf (a .b) j) 0) (at-loop .loop .out) j (c .bit-of .result) (omega arith) (at-loop .loop .inv .2) bit,
     )
 
 returns-2 : tie.Need-returns-2 Inv-loop μ-loop
@@ -75,7 +76,7 @@ returns-2 c =
     let at-loop = c .before in
     let a = at-loop .before .before .before .args in
     rw (lt-ltb (a .b) 4 (omega arith))
-    (tab-done (λ j. getD (bitsOf (a .bytes .now)) (placeOf (a .b) j) 0) (at-loop .loop .out) 77 (at-loop .loop .j) (omega arith) (omega arith) (omega arith) (at-loop .loop .inv .3))
+    (tab-done (λ j. getD (bitsOf (a .bytes .now)) (placeOf (a .b) j) 0) (at-loop .loop .out) 77 (at-loop .loop .j) (omega arith) (omega arith) (omega arith) (at-loop .loop .inv .2))
 
 pub block-of-spec : {M : Type 1} → statement M
 block-of-spec =

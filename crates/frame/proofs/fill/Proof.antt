@@ -1,11 +1,11 @@
 -- `frame::fill` meets its contract: the first i bytes are made. Assumes nothing.
-use mathlib.Core.Path.{_≡_, refl, sym, ap, _∙_}
-use Prim.Native.Nat.{ℕ, _+_, _-_, _*_, _/_, _<_, _≤_}
+use mathlib.Core.Path.{_≡_, refl}
+use Prim.Native.Nat.{_-_, _*_, _/_, _≤_}
 use native.Mathlib.Omega.{arith}
-use lib.ListN.{length, getD, take}
+use lib.ListN.{length, take}
 use Rattle.bits.specs.Table.{tabulate}
 use Rattle.bits.specs.Bits.{byteAt, bytesOf}
-use Rattle.bits.proofs.Table.{tab-more, tab-done, tab-none}
+use Rattle.bits.proofs.Table.{tab-more, tab-done}
 use borrow.Author.Needs.{needs}
 use Rattle.frame.proofs.fill.Statement.{statement}
 use Rattle.frame.proofs.fill.Tie as tie

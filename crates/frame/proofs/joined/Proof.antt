@@ -1,10 +1,10 @@
 -- `frame::joined` meets its contract: the first k bits stand. Assumes nothing.
-use mathlib.Core.Path.{_≡_, refl, sym, ap, _∙_}
+use mathlib.Core.Path.{_≡_, sym, ap, _∙_}
 use mathlib.Core.List.{List, _∷_, _++_}
 use mathlib.Core.Logic.{⊎-elim}
-use Prim.Native.Nat.{ℕ, _+_, _-_, _<_, _≤_}
+use Prim.Native.Nat.{ℕ, _-_, _≤_}
 use native.Mathlib.Omega.{arith}
-use lib.ListN.{length, getD, take, length-set}
+use lib.ListN.{length, take, length-set}
 use Rattle.bits.proofs.Table.{toward, arrived}
 use Rattle.frame.proofs.Parts.{parts, length-parts, at-sync, at-service, at-front, at-back}
 use borrow.Author.Needs.{needs}

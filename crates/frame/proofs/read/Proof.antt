@@ -1,6 +1,4 @@
 -- `frame::read` meets its contract. Assumes nothing.
-use mathlib.Core.Path.{_≡_, sym, _∙_}
-use Prim.Native.Nat.{ℕ}
 use native.Mathlib.Omega.{arith}
 use borrow.Author.Tests.{eq-eqb, ne-eqb, le-leb, lt-leb}
 use lib.ListN.{length}
@@ -14,7 +12,7 @@ refused-requires c κs = search needs
 
 returns : tie.Need-returns
 unfolding readFrame
-returns c = rw (ne-eqb (length (c .before .before .before .args .bytes .now)) 40 (c .before .if1 .taken)) (c .refused .ensures)
+returns c = rw (ne-eqb (length (c .before .before .before .args .bytes .now)) 40 (λ e. omega arith)) (c .refused .ensures)
 
 sync-errors-requires : tie.Need-sync-errors-requires
 sync-errors-requires c κs = search needs

@@ -1,7 +1,6 @@
 -- `frame::refused` meets its contract. Assumes nothing.
 use mathlib.Core.Path.{refl}
 use Rattle.frame.specs.Read.{nothing}
-use borrow.Author.Needs.{needs}
 use Rattle.frame.proofs.refused.Statement.{statement}
 use Rattle.frame.proofs.refused.Tie as tie
 

@@ -1,8 +1,8 @@
 -- `frame::sync_errors` meets its contract: the wrong bits counted so far. Assumes nothing.
-use mathlib.Core.Path.{_≡_, refl, sym, ap, _∙_}
+use mathlib.Core.Path.{_≡_, refl, sym, _∙_}
 use Prim.Native.Nat.{ℕ, _+_, _-_, _%_, _<_, _≤_}
 use native.Mathlib.Omega.{arith}
-use lib.ListN.{length, getD}
+use lib.ListN.{getD}
 use Rattle.bits.specs.Table.{tabulate}
 use Rattle.bits.specs.Bits.{bitAt, ones}
 use Rattle.frame.specs.Read.{wrongSync}
