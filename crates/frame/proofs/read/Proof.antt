@@ -1,0 +1,79 @@
+-- `frame::read` meets its contract. Assumes nothing.
+use native.Mathlib.Omega.{arith}
+use borrow.Author.Tests.{eq-eqb, ne-eqb, le-leb, lt-leb}
+use lib.ListN.{length}
+use Rattle.frame.specs.Read.{wrongSync, readFrame}
+use borrow.Author.Needs.{needs}
+use Rattle.frame.proofs.read.Statement.{statement}
+use Rattle.frame.proofs.read.Tie as tie
+
+refused-requires : tie.Need-refused-requires
+refused-requires c κs = search needs
+
+returns : tie.Need-returns
+unfolding readFrame
+returns c = rw (ne-eqb (length (c .before .before .before .args .bytes .now)) 40 (λ e. omega arith)) (c .refused .ensures)
+
+sync-errors-requires : tie.Need-sync-errors-requires
+sync-errors-requires c κs = search needs
+
+refused-requires-2 : tie.Need-refused-requires-2
+refused-requires-2 c κs = search needs
+
+returns-2 : tie.Need-returns-2
+unfolding readFrame
+returns-2 c =
+    let a = c .before .before .before .before .before .args in
+    let wrong = c .before .before .sync-errors .ensures in
+    rw (
+      eq-eqb (length (a .bytes .now)) 40 (omega arith),
+      lt-leb (wrongSync (a .letter) (a .bytes .now)) 0 (omega arith),
+    )
+    (c .refused2 .ensures)
+
+service-of-requires : tie.Need-service-of-requires
+service-of-requires c κs = search needs
+
+block-of-requires : tie.Need-block-of-requires
+block-of-requires c κs = search needs
+
+block-of-requires-2 : tie.Need-block-of-requires-2
+block-of-requires-2 c κs = search needs
+
+block-of-requires-3 : tie.Need-block-of-requires-3
+block-of-requires-3 c κs = search needs
+
+block-of-requires-4 : tie.Need-block-of-requires-4
+block-of-requires-4 c κs = search needs
+
+returns-3 : tie.Need-returns-3
+unfolding readFrame
+returns-3 c =
+    let four = c .before .before .before .before .before in
+    let a = four .before .before .before .before .args in
+    let wrong = four .before .sync-errors .ensures in
+    rw (
+      eq-eqb (length (a .bytes .now)) 40 (omega arith),
+      le-leb (wrongSync (a .letter) (a .bytes .now)) 0 (omega arith),
+      c .before .before .before .before .service-of .ensures,
+      c .before .before .before .block-of .ensures,
+      c .before .before .block-of2 .ensures,
+      c .before .block-of3 .ensures,
+      c .block-of4 .ensures,
+    )
+
+pub read-spec : {M : Type 1} → statement M
+read-spec =
+    tie.close
+    (tie.spec
+    refused-requires
+    returns
+    sync-errors-requires
+    refused-requires-2
+    returns-2
+    service-of-requires
+    block-of-requires
+    block-of-requires-2
+    block-of-requires-3
+    block-of-requires-4
+    returns-3)

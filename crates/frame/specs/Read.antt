@@ -1,0 +1,62 @@
+-- What reading a main frame answers (document 01, "Main frame" and "Numbers given").
+--     wrongSync letter bytes     in how many of the first eleven bits the bytes differ from the letter's sync word; bits past the end are 0
+--     mostWrong                  how many wrong bits a sync may have: it must match in all eleven
+--     serviceRead letter bytes   bit 12 of A, and 0 for B
+--     blockOf bytes b            block b + 1; bits past the end of the bytes are 0, and so is all of a block that a frame does not have
+--     blocksIn bytes             all four
+--     nothing n                  number n, and zeros in every other place
+--     found s blocks             number 0, a service bit and four blocks
+--     blocksOf r                 the four blocks of an answer
+--     readFrame letter bytes     THE ANSWER: number 1 for another length than 40 bytes, then 3 for a wrong sync
+--     serviceCleared letter bytes   A as it is; B with its service bit 0
+use mathlib.Core.Bool.{cond}
+use mathlib.Core.List.{List, [], _∷_}
+use Prim.Native.Nat.{ℕ}
+use lib.Dec.{eqb, leb, ltb}
+use lib.ListN.{length, set}
+use Rattle.bits.specs.Table.{tabulate}
+use Rattle.bits.specs.Bits.{bitAt, bitsOf, bytesOf}
+use Rattle.remainder.specs.Polynomial.{zeros}
+use Rattle.code.specs.Words.{distance}
+use Rattle.frame.specs.Frame.{syncWord, serviceIn, block, deinterleave}
+use Rattle.frame.specs.declared.FrameRead.{FrameRead}
+use Rattle.frame.specs.declared.Letter.{Letter}
+use Rattle.frame.specs.declared.Letter.the-variants.{A, B}
+
+unfoldable pub wrongSync : Letter → List ℕ → ℕ
+wrongSync letter bytes = distance (syncWord letter) (tabulate 11 (bitAt bytes))
+
+abbrev pub mostWrong : ℕ
+mostWrong = 0
+
+unfoldable pub serviceRead : Letter → List ℕ → ℕ
+serviceRead letter bytes = serviceIn letter (bitAt bytes 11)
+
+unfoldable pub blockOf : List ℕ → ℕ → List ℕ
+blockOf bytes b = cond (ltb b 4) (deinterleave (bitsOf bytes) b) (zeros 77)
+
+abbrev pub blocksIn : List ℕ → List (List ℕ)
+blocksIn bytes = blockOf bytes 0 ∷ blockOf bytes 1 ∷ blockOf bytes 2 ∷ blockOf bytes 3 ∷ []
+
+unfoldable pub nothing : ℕ → FrameRead
+nothing n = record { number = n; service = 0; first = zeros 77; second = zeros 77; third = zeros 77; fourth = zeros 77 }
+
+abbrev pub found : ℕ → List (List ℕ) → FrameRead
+found s blocks =
+    record { number = 0; service = s; first = block blocks 0; second = block blocks 1; third = block blocks 2; fourth = block blocks 3 }
+
+abbrev pub blocksOf : FrameRead → List (List ℕ)
+blocksOf r = r .first ∷ r .second ∷ r .third ∷ r .fourth ∷ []
+
+unfoldable pub readFrame : Letter → List ℕ → FrameRead
+readFrame letter bytes =
+    cond (eqb (length bytes) 40)
+    (cond (leb (wrongSync letter bytes) mostWrong)
+    (found (serviceRead letter bytes) (blocksIn bytes))
+    (nothing 3))
+    (nothing 1)
+
+-- B's service bit is 0 where a frame is written, whatever stood there when it was read
+unfoldable pub serviceCleared : Letter → List ℕ → List ℕ
+serviceCleared A bytes = bytes
+serviceCleared B bytes = bytesOf (set (bitsOf bytes) 11 0)
