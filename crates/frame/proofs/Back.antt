@@ -21,7 +21,8 @@ use lib.Seq.{ext-getD, set-getD, getD-set-same, getD-set-other}
 use Rattle.bits.specs.Table.{tabulate, every}
 use Rattle.bits.specs.Digits.{Below}
 use Rattle.bits.specs.Bits.{bitAt, bitsOf, bytesOf}
-use Rattle.bits.proofs.Table.{length-tab, getD-tab, tab-ext, tab-getD, both-true}
+use Rattle.bits.proofs.Table.{length-tab, getD-tab, tab-ext, tab-getD}
+use Rattle.bits.proofs.Tests.{both-true}
 use Rattle.bits.proofs.Digits.{below-tab}
 use Rattle.bits.proofs.Bits.{length-bitsOf, length-bytesOf, bytes-back, bits-back}
 use Rattle.frame.specs.Frame.{syncWord, serviceIn, interleave, block, frameBits, frameBytes, placeOf, deinterleave, blockAt, bitAtPlace}

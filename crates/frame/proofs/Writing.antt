@@ -16,7 +16,7 @@ use lib.Dec.{eqb, leb}
 use lib.ListN.{length}
 use Rattle.bits.specs.Table.{every}
 use Rattle.bits.specs.Digits.{Below}
-use Rattle.bits.proofs.Table.{both-true}
+use Rattle.bits.proofs.Tests.{both-true}
 use Rattle.frame.specs.Frame.{frameBytes}
 use Rattle.frame.specs.Write.{isBit, goodValues, writeNumber, Written}
 use Rattle.frame.specs.declared.Letter.{Letter}
