@@ -1,24 +1,24 @@
 -- The reader's answer from the places found.
---     turn-front, turn-small       a bit turned among the first ones of a row; it is 0 or 1
+--     length-turn, turn-front      a bit turned: how long the row is; among the first ones of a row
 --     outcome block p              what the code answers where p are the wrong places
 --     found-read                   that is the reading
 --     out-of-range                 and so is the refusal
 -- Assumes nothing.
-use mathlib.Core.Path.{_≡_, refl, sym, ap, ap₂, _∙_}
+use mathlib.Core.Path.{_≡_, refl, sym, ap, _∙_}
 use mathlib.Core.Bool.{true, false}
 use mathlib.Core.List.{List, [], _∷_, _++_}
 use Prim.Native.Nat.{ℕ, _+_, _%_, _<_}
 use native.Mathlib.Omega.{arith}
-use lib.ListN.{length, getD, take, drop, set, length-set, take-append-drop}
-use lib.Seq.{length-take-le, getD-take, set-append-left}
+use lib.ListN.{length, getD, drop, set, length-set, take-append-drop}
+use lib.Seq.{length-take-le, set-append-left}
 use Rattle.bits.specs.Bits.{areBits}
 use Rattle.bits.specs.Digits.{value}
-use Rattle.bits.specs.Answer.{accepted, refused}
+use Rattle.bits.specs.Answer.{accepted}
 use Rattle.bits.proofs.Digits.{below-take}
 use Rattle.bits.proofs.Bits.{bits-below}
 use Rattle.remainder.specs.Remainder.{remainder}
 use Rattle.code.specs.Generators.{blockGenerator}
-use Rattle.reading.specs.Reading.{Reading, handed}
+use Rattle.reading.specs.Reading.{handed}
 use Rattle.reading.specs.Search.{reading}
 use Rattle.reading.specs.Wrong.{turn, readAs, answer, wrongPlaces, Within}
 use Rattle.reading.specs.declared.Places.{Places}
