@@ -24,7 +24,7 @@ use Rattle.reading.specs.Wrong.{turn, readAs, answer, wrongPlaces, Within}
 use Rattle.reading.specs.declared.Places.{Places}
 use Rattle.reading.specs.declared.Places.the-variants.{Zero, One, Two, Nowhere}
 use Rattle.reading.proofs.Answered.{answered-reading, answered-within}
-use Rattle.block.specs.Read.{said, protected, saidOf, handedOn, told, IsRead}
+use Rattle.block.specs.Read.{ordinary, said, protected, saidOf, handedOn, told, IsRead}
 use Rattle.block.specs.declared.BlockReading.the-variants.{Clean, Mended, Bad, OutOfRange}
 use Rattle.block.specs.declared.BlockRead.{BlockRead}
 
@@ -79,7 +79,7 @@ module _ (block : List ℕ) (size : length block ≡ 77) (bits : areBits block �
   pub found-read : (r : ℕ) (p : Places) → r ≡ value 2 (remainder blockGenerator (protected block)) → answer p ≡ wrongPlaces 2 r → IsRead block (outcome block p)
   unfolding saidOf handedOn
   found-read r p e a =
-      let read : reading 2 (protected block) ≡ readAs (protected block) p =
+      let read : reading ordinary (protected block) ≡ readAs (protected block) p =
       answered-reading (protected block) r p front (below-take 2 63 block (bits-below block bits)) e a in
       record {
         answer = rw (bits, read) (says p);

@@ -1,6 +1,7 @@
 -- The mission's second and third demands, of a way to read blocks: what it says of 77 bits, and which 77 bits it hands on.
 --     IsBlock block         77 numbers that are 0 or 1
---     Second says hands     THE SECOND DEMAND, over code words and the ordinary radius 2
+--     Near w n c            c is a code word n places from w, and n is 1 or 2
+--     Second says hands     THE SECOND DEMAND, over code words
 --     Sent sound mask other     44 sound bits as sent, a set of changed places among the 63, and 14 other bits as they arrive
 --     received sound mask other     the block that then arrives
 --     Third says hands      THE THIRD DEMAND, over the code words of the second
@@ -22,7 +23,6 @@ pub record IsBlock (block : List ℕ) : Type 0 where
   pub size : length block ≡ 77
   pub bits : areBits block ≡ true
 
--- a code word exactly n places away, from one to two
 pub record Near (w : List ℕ) (n : ℕ) (c : List ℕ) : Type 0 where
   pub word : CodeWord c
   pub away : distance c w ≡ n
