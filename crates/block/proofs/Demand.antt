@@ -1,7 +1,10 @@
 -- What is said of a block and handed on meets the mission's second and third demands.
---     read-meets, read-only        it is a reading of the 63 bits at radius 2, and every such reading is that one
---     said-back                    a reading from what is said
+--     Meets block r                r is a reading of the 63 bits at radius 2, and the one that is said and handed on
+--     read-meets, read-only        the reading that is computed is such a one, and so is every other
+--     said-clean, said-mended, said-bad, heard     a reading from what is said of it
+--     clean-word, word-clean, clean-hands          a clean block is a code word, the other way round, and is handed on as it is
 --     second, third                THE DEMANDS
+--     comes-back, marked-bad       the third, of whatever meets the reader's promise
 -- Assumes nothing.
 use mathlib.Core.Path.{_≡_, refl, sym, ap, _∙_, subst}
 use mathlib.Core.Bool.{true}
@@ -29,8 +32,9 @@ use Rattle.reading.specs.Search.{reading}
 use Rattle.reading.specs.Demand.{sent}
 use Rattle.reading.proofs.Fixed.{reading-reads, reading-is}
 use Rattle.reading.proofs.Demand as D
-use Rattle.block.specs.Read.{Said, clean, mended, bad, said, saidWith, protected, saidOf, handedOn}
+use Rattle.block.specs.Read.{Said, clean, mended, bad, said, saidWith, protected, saidOf, handedOn, told, IsRead}
 use Rattle.block.specs.Demand.{IsBlock, Near, Second, Sent, received, Third}
+use Rattle.block.specs.declared.BlockRead.{BlockRead}
 
 -- ---- what is said of 77 bits is a reading of the first 63
 pub record Meets (block : List ℕ) (r : Reading) : Type 0 where
@@ -225,3 +229,14 @@ third =
       kept = λ sound mask other s l h. bad-hands (received sound mask other) (seen sound mask other s l h);
       others = λ sound mask other s. never-changed (received sound mask other) (arrived-block sound mask other s .size) ∙ behind sound mask other s;
     }
+
+module _ (sound mask other : List ℕ) (s : Sent sound mask other) (r : BlockRead) (p : IsRead (received sound mask other) r) where
+  pub comes-back : ones mask ≤ 2 → (told (r .reading) ≡ accepted (saidWith (ones mask) ∷ [])) × (take 44 (r .bits) ≡ sound) × (drop 63 (r .bits) ≡ other)
+  comes-back h = (
+    p .answer ∙ third .number sound mask other s h,
+    ap (take 44) (p .bits) ∙ third .back sound mask other s h,
+    ap (drop 63) (p .bits) ∙ third .others sound mask other s,
+  )
+
+  pub marked-bad : 2 < ones mask → ones mask ≤ 5 → (told (r .reading) ≡ accepted (bad ∷ [])) × (r .bits ≡ received sound mask other)
+  marked-bad l h = (p .answer ∙ third .seen sound mask other s l h, p .bits ∙ third .kept sound mask other s l h)

@@ -2,6 +2,7 @@
 --     Said              what is said of a block: clean, mended with a number of places, bad
 --     said r            that of a reading of the 63 bits
 --     saidWith n        what is said where n places were turned: clean at 0, mended above
+--     ordinary          the radius of every reading here
 --     protected block   the 63 protected bits
 --     saidOf block      what reading a block answers: number 2 for an entry that is not 0 or 1
 --     handedOn block    the 77 bits handed on: the 63 put right where they were mended, all as received otherwise

@@ -124,7 +124,7 @@ pub fn write(codes: [i16; 4], extra: [u8; 2]) -> BlockWritten
     }
 }
 
-// Where bit k of a channel's 14 stands in a block. The lower bits, k from 11 on, stand behind the first 63: 63 - 11 is 52.
+// Where bit k of a channel's 14 stands in a block: 52 is 63 - 11, as the lower bits, from k 11 on, stand behind the first 63.
 fn place_of(channel: usize, k: usize) -> usize
     requires { ⌜ (channel < 4) × (k < 14) ⌝ }
     ensures { λ r. ⌜ (r ≡ placeOf channel k) × (r < 77) ⌝ }
