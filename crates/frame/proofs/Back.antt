@@ -20,14 +20,14 @@ use lib.ListN.{length, getD, set, length-set}
 use lib.Seq.{ext-getD, set-getD, getD-set-same, getD-set-other}
 use Rattle.bits.specs.Table.{tabulate, every}
 use Rattle.bits.specs.Digits.{Below}
-use Rattle.bits.specs.Bits.{bitAt, bitsOf, bytesOf}
+use Rattle.bits.specs.Bits.{bitAt, bitsOf, bytesOf, areBits}
 use Rattle.bits.proofs.Table.{length-tab, getD-tab, tab-ext, tab-getD}
 use Rattle.bits.proofs.Tests.{both-true}
 use Rattle.bits.proofs.Digits.{below-tab}
-use Rattle.bits.proofs.Bits.{length-bitsOf, length-bytesOf, bytes-back, bits-back}
+use Rattle.bits.proofs.Bits.{length-bitsOf, length-bytesOf, bytes-back, bits-back, bits-below, below-bits}
 use Rattle.frame.specs.Frame.{syncWord, serviceIn, interleave, block, frameBits, frameBytes, placeOf, deinterleave, blockAt, bitAtPlace}
 use Rattle.frame.specs.Read.{wrongSync, serviceRead, blockOf, blocksIn, nothing, found, blocksOf, readFrame, serviceCleared}
-use Rattle.frame.specs.Write.{isBit, goodValues, Written}
+use Rattle.frame.specs.Write.{goodValues, Written}
 use Rattle.frame.specs.declared.FrameRead.{FrameRead}
 use Rattle.frame.specs.declared.Letter.{Letter}
 use Rattle.frame.specs.declared.Letter.the-variants.{A, B}
@@ -36,7 +36,7 @@ use Rattle.frame.proofs.Interleave.{below-interleave}
 use Rattle.frame.proofs.Parts.{below-parts}
 use Rattle.frame.proofs.Sync.{length-sync, below-sync, sync-matches, sync-right}
 use Rattle.frame.proofs.Places.{place-belongs, Sized, length-frame, frame-sync, frame-service, placed, blocks-gathered}
-use Rattle.frame.proofs.Writing.{number-none, success, written-is, bits-below, below-bits}
+use Rattle.frame.proofs.Writing.{number-none, success, written-is}
 
 pub block-there : (bytes : List ℕ) (b : ℕ) → b < 4 → blockOf bytes b ≡ deinterleave (bitsOf bytes) b
 unfolding blockOf
@@ -78,13 +78,13 @@ module _ (letter : Letter) (bytes bits : List ℕ) (sized : length bytes ≡ 40)
       )
 
 -- ---- what is written is read back
-pub good-blocks : (n : ℕ) (blocks : List (List ℕ)) → every (every isBit) blocks ≡ true → Below 2 (block blocks n)
+pub good-blocks : (n : ℕ) (blocks : List (List ℕ)) → every areBits blocks ≡ true → Below 2 (block blocks n)
 unfolding every Below
 good-blocks n [] e = tt
-good-blocks zero (x ∷ blocks) e = bits-below x (both-true (every isBit x) (every (every isBit) blocks) e .0)
-good-blocks (suc n) (x ∷ blocks) e = good-blocks n blocks (both-true (every isBit x) (every (every isBit) blocks) e .1)
+good-blocks zero (x ∷ blocks) e = bits-below x (both-true (areBits x) (every areBits blocks) e .0)
+good-blocks (suc n) (x ∷ blocks) e = good-blocks n blocks (both-true (areBits x) (every areBits blocks) e .1)
 
-module _ (letter : Letter) (s : ℕ) (blocks : List (List ℕ)) (sized : Sized blocks) (small : s < 2) (good : every (every isBit) blocks ≡ true) where
+module _ (letter : Letter) (s : ℕ) (blocks : List (List ℕ)) (sized : Sized blocks) (small : s < 2) (good : every areBits blocks ≡ true) where
   pub below-frame : Below 2 (frameBits letter s blocks)
   unfolding frameBits
   below-frame =
@@ -165,14 +165,14 @@ module _ (letter : Letter) (bytes : List ℕ) (taken : readFrame letter bytes .n
   unfolding deinterleave
   sized-blocks b h = ap length (each b h) ∙ length-tab 77 (λ j. getD (bitsOf bytes) (placeOf b j) 0)
 
-  below-blocks : (b : ℕ) → b < 4 → every isBit (block (blocksIn bytes) b) ≡ true
+  below-blocks : (b : ℕ) → b < 4 → areBits (block (blocksIn bytes) b) ≡ true
   unfolding deinterleave
   below-blocks b h =
-      ap (every isBit) (each b h)
+      ap areBits (each b h)
       ∙ below-bits (deinterleave (bitsOf bytes) b)
       (below-tab 2 77 (λ j. getD (bitsOf bytes) (placeOf b j) 0) (λ j l. bit-below (bitsOf bytes) (placeOf b j) (below-bitsOf bytes)))
 
-  all-bits : every (every isBit) (blocksIn bytes) ≡ true
+  all-bits : every areBits (blocksIn bytes) ≡ true
   unfolding every
   all-bits =
       rw (below-blocks 0 (omega arith), below-blocks 1 (omega arith), below-blocks 2 (omega arith), below-blocks 3 (omega arith))
@@ -220,7 +220,7 @@ module _ (letter : Letter) (bytes : List ℕ) (taken : readFrame letter bytes .n
 
   pub read-writes : Below 256 bytes → (out : List ℕ) → length out ≡ 40
       → Written letter (readFrame letter bytes .service) (blocksOf (readFrame letter bytes)) out 0 (serviceCleared letter bytes)
-  unfolding goodValues isBit
+  unfolding goodValues
   read-writes h out sized =
       rw read-found
       (success letter (serviceRead letter bytes) (blocksIn bytes) out 0

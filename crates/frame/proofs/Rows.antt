@@ -2,7 +2,6 @@
 --     bit-below             an entry of a row of bits is 0 or 1, past its end too
 --     bitAt-below, bitsOf-at, below-bitsOf
 --                           a bit of bytes is 0 or 1; their bits one by one, past the end too
---     getD-behind           an entry of the second of two rows
 --     ⊕-tab, getD-⊕, take-⊕, drop-⊕
 --                           a sum of two tables; a sum entry by entry; its first entries, and the others
 --     ones-more             ones of a table with one entry more
@@ -17,7 +16,6 @@ use native.Mathlib.Decide.{decLe}
 use native.Mathlib.Numerals.{add-one}
 use native.Mathlib.Omega.{arith}
 use lib.ListN.{length, getD, take, drop, List·getD-eq-default}
-use lib.Seq.{getD-append-add}
 use Rattle.bits.specs.Table.{tabulate}
 use Rattle.bits.specs.Digits.{Below}
 use Rattle.bits.specs.Bits.{bitAt, bitsOf, ones}
@@ -54,13 +52,6 @@ bitsOf-at bytes k = go (decLe (suc k) (8 * length bytes))
 pub below-bitsOf : (bytes : List ℕ) → Below 2 (bitsOf bytes)
 unfolding bitsOf
 below-bitsOf bytes = below-tab 2 (8 * length bytes) (bitAt bytes) (λ k h. bitAt-below bytes k)
-
--- ---- entries
-module _ {A : Type 0} where
-  pub getD-behind : (p q : List A) (d : A) (n k : ℕ) → length p ≡ n → n ≤ k → getD (p ++ q) k d ≡ getD q (k - n) d
-  getD-behind p q d n k e h =
-      let whole : k ≡ length p + (k - n) = omega arith in
-      ap (λ (i : ℕ). getD (p ++ q) i d) whole ∙ getD-append-add p q (k - n) d
 
 -- ---- sums
 pub ⊕-tab : (n : ℕ) (f g : ℕ → ℕ) → tabulate n f ⊕ tabulate n g ≡ tabulate n (λ k. (f k + g k) % 2)
