@@ -16,7 +16,7 @@ use lib.ListN.{length, getD, take, drop, take-append-drop}
 use lib.Seq.{take-take, length-take-le, take-append-le, drop-at}
 use Rattle.bits.specs.Digits.{Below}
 use Rattle.bits.specs.Bits.{bitsOf, bytesOf, ones, areBits}
-use Rattle.bits.proofs.Table.{length-tab, tab-ext}
+use Rattle.bits.proofs.Table.{tab-ext}
 use Rattle.bits.proofs.Digits.{below-take}
 use Rattle.bits.proofs.Bits.{length-bytesOf, bits-back, below-bits}
 use Rattle.bits.specs.Answer.{accepted}
@@ -39,13 +39,9 @@ use Rattle.frame.specs.Write.{Written}
 use Rattle.frame.specs.Burst.{damaged, damagedBlocks, Burst, Survives}
 use Rattle.frame.specs.declared.Letter.{Letter}
 use Rattle.frame.proofs.Rows.{bit-below, getD-⊕, ⊕-tab, take-⊕, ones-take, ones-window}
-use Rattle.frame.proofs.Places.{Sized, length-frame, frame-sync, frame-service, blocks-gathered}
+use Rattle.frame.proofs.Places.{length-gathered, Sized, length-frame, frame-sync, frame-service, blocks-gathered}
 use Rattle.frame.proofs.Writing.{written-is}
 use Rattle.frame.proofs.Back.{block-there, reads, sent-twice, good-blocks, below-frame, frame-bits}
-
-length-gathered : (bits : List ℕ) (b : ℕ) → length (deinterleave bits b) ≡ 77
-unfolding deinterleave
-length-gathered bits b = length-tab 77 (λ j. getD bits (placeOf b j) 0)
 
 pub gathered-⊕ : (p q : List ℕ) (b : ℕ) → length p ≡ length q → deinterleave (p ⊕ q) b ≡ deinterleave p b ⊕ deinterleave q b
 unfolding deinterleave

@@ -1,12 +1,11 @@
 -- Laws of rows of bits.
---     bit-below             an entry of a row of bits is 0 or 1, past its end too
+--     bit-below                an entry of a row of bits is 0 or 1, past its end too
 --     bitAt-below, bitsOf-at, below-bitsOf
---                           a bit of bytes is 0 or 1; their bits one by one, past the end too
---     ⊕-tab, getD-⊕, take-⊕, drop-⊕
---                           a sum of two tables; a sum entry by entry; its first entries, and the others
---     ones-more             ones of a table with one entry more
---     ones-take             the first entries have no more ones than all
---     ones-window           entries that are even outside w places in a row: at most w ones
+--                              a bit of bytes is 0 or 1; their bits one by one, past the end too
+--     ⊕-tab, getD-⊕, take-⊕    a sum of two tables; a sum entry by entry; its first entries
+--     ones-more                ones of a table with one entry more
+--     ones-take                the first entries have no more ones than all
+--     ones-window              entries that are even outside w places in a row: at most w ones
 -- Assumes nothing.
 use mathlib.Core.Path.{_≡_, refl, sym, ap, _∙_}
 use mathlib.Core.List.{List, [], _∷_, _++_}
@@ -15,7 +14,7 @@ use native.Mathlib.Nat.{suc-inj, suc-ne-zero, mod-lt, zero-div, zero-mod}
 use native.Mathlib.Decide.{decLe}
 use native.Mathlib.Numerals.{add-one}
 use native.Mathlib.Omega.{arith}
-use lib.ListN.{length, getD, take, drop, List·getD-eq-default}
+use lib.ListN.{length, getD, take, List·getD-eq-default}
 use Rattle.bits.specs.Table.{tabulate}
 use Rattle.bits.specs.Digits.{Below}
 use Rattle.bits.specs.Bits.{bitAt, bitsOf, ones}
@@ -75,14 +74,6 @@ take-⊕ zero p q = refl
 take-⊕ (suc n) [] q = refl
 take-⊕ (suc n) (x ∷ p) [] = refl
 take-⊕ (suc n) (x ∷ p) (y ∷ q) = cons refl (take-⊕ n p q)
-
-pub drop-⊕ : (n : ℕ) (p q : List ℕ) → length p ≡ length q → drop n (p ⊕ q) ≡ drop n p ⊕ drop n q
-unfolding _⊕_
-drop-⊕ zero p q h = refl
-drop-⊕ (suc n) [] [] h = refl
-drop-⊕ (suc n) [] (y ∷ q) h = absurd (suc-ne-zero _ (sym h))
-drop-⊕ (suc n) (x ∷ p) [] h = absurd (suc-ne-zero _ h)
-drop-⊕ (suc n) (x ∷ p) (y ∷ q) h = drop-⊕ n p q (suc-inj h)
 
 -- ---- ones
 pub ones-more : (n : ℕ) (f : ℕ → ℕ) → ones (tabulate (n + 1) f) ≡ ones (tabulate n f) + f n % 2
