@@ -18,7 +18,9 @@ use Rattle.bits.specs.Table.{every}
 use Rattle.bits.specs.Bits.{areBits}
 use Rattle.bits.specs.Digits.{Below}
 use Rattle.bits.specs.Answer.{accepted}
-use Rattle.bits.proofs.Table.{length-tab, getD-tab, tab-ext, tab-getD, either-way}
+use Rattle.bits.proofs.Table.{length-tab, getD-tab, tab-ext, tab-getD}
+use Rattle.bits.proofs.Tests.{either-way}
+use Rattle.bits.proofs.Every.{every-each, every-tab}
 use Rattle.bits.proofs.Bits.{bits-below, below-bits}
 use Rattle.bits.proofs.Digits.{below-append, below-drop}
 use Rattle.code.specs.Generators.{blockGenerator}
@@ -30,7 +32,6 @@ use Rattle.sample.proofs.Patterns.{signed-inside, code-bits-back, bits-code-bac
 use Rattle.block.specs.Layout.{sound, rest, blockOf, fourteen, placeOf, codeAt, codesAt, extraAt, writtenBlock, codesOf}
 use Rattle.block.specs.Read.{clean, protected, saidOf, handedOn}
 use Rattle.block.specs.Demand.{IsBlock}
-use Rattle.block.proofs.Every.{every-getD, every-tab}
 use Rattle.block.proofs.Places.{length-sound, below-sound, sound-at, length-rest, below-rest, rest-at, length-63, length-block, at-sound, at-rest, length-fourteen, below-fourteen, fourteen-at}
 use Rattle.block.proofs.Demand.{heard, clean-hands, clean-word, word-clean}
 
@@ -96,7 +97,7 @@ module _ (codes : List ℤ) (extra : List ℕ) (four : length codes ≡ 4) (two 
   unfolding codesAt codeAt
   codes-back =
       tab-ext 4 (codeAt block) code
-      (λ c h. ap bitsCode (fourteen-back c h) ∙ code-bits-back (code c) (every-getD isCode codes c (pos 0) good (omega arith)))
+      (λ c h. ap bitsCode (fourteen-back c h) ∙ code-bits-back (code c) (every-each isCode codes c (pos 0) good (omega arith)))
       ∙ sym (tab-getD 4 codes (pos 0) four)
 
   extra-back : extraAt block ≡ extra

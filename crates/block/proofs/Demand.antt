@@ -16,7 +16,7 @@ use lib.Seq.{length-take-le, take-at, drop-at, take-append-le}
 use Rattle.bits.specs.Bits.{areBits, ones}
 use Rattle.bits.specs.Digits.{Below}
 use Rattle.bits.specs.Answer.{accepted}
-use Rattle.bits.proofs.Table.{either-way}
+use Rattle.bits.proofs.Tests.{either-way}
 use Rattle.bits.proofs.Answer.{by-test}
 use Rattle.bits.proofs.Bits.{bits-below, below-bits}
 use Rattle.bits.proofs.Digits.{below-append, below-take}

@@ -5,8 +5,8 @@ use mathlib.Core.Path.{_≡_, refl, ap₂}
 use mathlib.Core.List.{List}
 use Prim.Native.Nat.{ℕ}
 use lib.IntN.{ℤ}
-use Rattle.bits.proofs.Unique.{same}
-use Rattle.sample.proofs.Answers.{first, same-through}
+use Rattle.bits.proofs.Unique.{same, same-through}
+use Rattle.bits.proofs.Answer.{first}
 use Rattle.block.specs.Layout.{writtenBlock, codesOf}
 use Rattle.block.specs.Read.{Said, clean, mended, bad, told, IsRead}
 use Rattle.block.specs.declared.BlockReading.{BlockReading}
