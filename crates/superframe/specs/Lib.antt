@@ -1,2 +1,7 @@
 pub mod State
 pub mod Run
+pub mod Tape
+pub mod Marks
+pub mod Sound
+pub mod Beside
+pub mod Take

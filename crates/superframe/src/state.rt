@@ -39,7 +39,7 @@ pub struct Serviced {
 }
 
 // The service's part of a state.
-fn service_of(state: State) -> Service
+pub(crate) fn service_of(state: State) -> Service
     ensures { λ r. ⌜ r ≡ serviceOf state ⌝ }
 {
     let group = state.group;
@@ -53,7 +53,7 @@ fn service_of(state: State) -> Service
 }
 
 // A state from its two parts.
-fn joined(next: [u8; 32], after: [u8; 32], service: Service) -> State
+pub(crate) fn joined(next: [u8; 32], after: [u8; 32], service: Service) -> State
     ensures { λ r. ⌜ r ≡ joinedState (record { next = next; after = after }) service ⌝ }
 {
     let group = service.group;
@@ -86,7 +86,7 @@ impl State {
     }
 
     // Whether every number is in its range.
-    fn in_range(self) -> bool
+    pub(crate) fn in_range(self) -> bool
         ensures { λ r. ⌜ r ≡ stateInRange self ⌝ }
     {
         let next = self.next;

@@ -1,0 +1,74 @@
+-- Taking a superframe (document 01, "Superframe", "Numbers given").
+--     takeNumber s sf samples marks     the number: 1 for a wrong length, then 2 for a state out of range, then 3 for a wrong sync, else 0
+--     takenFactors s sf     the factors move on by one, and those read hold for the superframe after the next
+--     besideWith s sf b     the answer where nothing is refused, with the readings counted as b
+--     refusedWith n s       number n, zeros, and a state
+--     takeAnswer n s sf     the answer by its number: refused with 3 the state after one lost superframe, with 1 and 2 the state as given
+--     Took s sf samples marks r samples' marks'     THE PROMISE: the answer, and what the two lent lists then hold; refused, they are untouched
+use Prim.Native.Nat.{ℕ}
+use mathlib.Core.Path.{_≡_}
+use mathlib.Core.Bool.{false, cond}
+use mathlib.Core.List.{List}
+use lib.Dec.{eqb}
+use lib.IntN.{ℤ}
+use lib.ListN.{length, replicate}
+use Rattle.service.specs.Service.{served}
+use Rattle.service.specs.declared.Served.{Served}
+use Rattle.superframe.specs.State.{Factors, joinedState, factorsOf, serviceOf, stateInRange, lostState}
+use Rattle.superframe.specs.Tape.{synced, blocksOf, noBlocks}
+use Rattle.superframe.specs.Sound.{samplesOf, marksOf}
+use Rattle.superframe.specs.Beside.{programmesOf, noProgrammes, serviceBits, sixOf, syncOf}
+use Rattle.superframe.specs.declared.state.State.{State}
+use Rattle.superframe.specs.declared.blocks.Blocks.{Blocks}
+use Rattle.superframe.specs.declared.taking.Taken.{Taken}
+
+unfoldable pub takeNumber : State → List ℕ → List ℤ → List ℕ → ℕ
+takeNumber s sf samples marks =
+    cond (eqb (length sf) 5120)
+    (cond (eqb (length samples) 2048)
+    (cond (eqb (length marks) 2048) (cond (stateInRange s) (cond (synced sf) 0 3) 2) 1)
+    1)
+    1
+
+abbrev pub takenFactors : State → List ℕ → Factors
+takenFactors s sf = record { next = s .after; after = programmesOf sf .factors }
+
+abbrev pub servedIn : State → List ℕ → Served
+servedIn s sf = served (serviceOf s) (sixOf (serviceBits sf)) (syncOf (serviceBits sf))
+
+unfoldable pub besideWith : State → List ℕ → Blocks → Taken
+besideWith s sf b =
+    record {
+      number = 0;
+      next = joinedState (takenFactors s sf) (servedIn s sf .next);
+      blocks = b;
+      programmes = programmesOf sf;
+      six = sixOf (serviceBits sf);
+      position = servedIn s sf .position;
+      service = servedIn s sf .number;
+      complete = servedIn s sf .complete;
+      labels = servedIn s sf .labels;
+    }
+
+unfoldable pub refusedWith : ℕ → State → Taken
+refusedWith n s =
+    record {
+      number = n;
+      next = s;
+      blocks = noBlocks;
+      programmes = noProgrammes;
+      six = replicate 6 0;
+      position = 0;
+      service = 0;
+      complete = false;
+      labels = replicate 256 0;
+    }
+
+unfoldable pub takeAnswer : ℕ → State → List ℕ → Taken
+takeAnswer n s sf = cond (eqb n 0) (besideWith s sf (blocksOf sf)) (refusedWith n (cond (eqb n 3) (lostState s) s))
+
+pub record Took (s : State) (sf : List ℕ) (samples : List ℤ) (marks : List ℕ) (r : Taken) (samples' : List ℤ) (marks' : List ℕ) : Type 0 where
+  pub answer : r ≡ takeAnswer (takeNumber s sf samples marks) s sf
+  -- at the factors that the state brought, never at those of this superframe
+  pub sound : samples' ≡ cond (eqb (takeNumber s sf samples marks) 0) (samplesOf sf (s .next)) samples
+  pub marked : marks' ≡ cond (eqb (takeNumber s sf samples marks) 0) (marksOf sf (s .next)) marks

@@ -1,0 +1,103 @@
+// A superframe is taken: its samples and marks go into two lent slices, and the state comes back with the answer.
+ghost use mathlib.Core.Path.{_≡_};
+ghost use lib.ListN.{length};
+ghost use Rattle.superframe.specs.Take.{besideWith, refusedWith, Took};
+use super::beside;
+use super::beside::Programmes;
+use super::blocks;
+use super::blocks::Blocks;
+use super::sound;
+use super::state;
+use super::state::State;
+
+// The answer to a superframe. Refused, all but the number and the state is 0.
+pub struct Taken {
+    // 0; 1: a wrong length; 2: a state out of range; 3: a wrong sync
+    pub number: u8,
+    pub next: State,
+    pub blocks: Blocks,
+    pub programmes: Programmes,
+    // the six service bytes
+    pub six: [u8; 6],
+    // of the six bytes; 0: they belong to no open group
+    pub position: u8,
+    // 0; 7: the service sync is neither of the two
+    pub service: u8,
+    // whether the labels are handed out
+    pub complete: bool,
+    // 32 labels of eight characters where they are handed out, else 0
+    pub labels: [u8; 256],
+}
+
+fn refused(number: u8, next: State) -> Taken
+    ensures { λ r. ⌜ r ≡ refusedWith number next ⌝ }
+{
+    Taken {
+        number,
+        next,
+        blocks: blocks::no_blocks(),
+        programmes: beside::no_programmes(),
+        six: [0u8; 6],
+        position: 0,
+        service: 0,
+        complete: false,
+        labels: [0u8; 256],
+    }
+}
+
+// All that is answered beside the samples and marks, with the readings already counted.
+fn answered(state: State, bytes: &[u8], blocks: Blocks) -> Taken
+    requires { ⌜ length (now bytes) ≡ 5120 ⌝ }
+    ensures { λ r. ⌜ r ≡ besideWith state (now (bytes .entry)) blocks ⌝ }
+{
+    let programmes = beside::all_programmes(bytes);
+    let bits = beside::service_bits(bytes);
+    let six = beside::six_of(bits);
+    let sync = beside::sync_of(bits);
+    let served = service::serve(state::service_of(state), six, sync);
+    let moved = state.after;
+    let read = programmes.factors;
+    let service = served.next;
+    let labels = served.labels;
+    let next = state::joined(moved, read, service);
+    Taken {
+        number: 0,
+        next,
+        blocks,
+        programmes,
+        six,
+        position: served.position,
+        service: served.number,
+        complete: served.complete,
+        labels,
+    }
+}
+
+impl State {
+    // Refused, nothing is written: all 128 syncs are looked at before the first sample.
+    pub fn take(self, bytes: &[u8], samples: &mut [i16], marks: &mut [u8]) -> Taken
+        ensures { λ r. ⌜ Took self (now (bytes .entry)) (now (samples .entry)) (now (marks .entry)) r (now (samples .exit)) (now (marks .exit)) ⌝ }
+    {
+        if bytes.len() != 5120 {
+            return refused(1, self);
+        }
+        if samples.len() != 2048 {
+            return refused(1, self);
+        }
+        if marks.len() != 2048 {
+            return refused(1, self);
+        }
+        if !self.in_range() {
+            return refused(2, self);
+        }
+        if !blocks::all_synced(bytes) {
+            let lost = self.lose();
+            let next = lost.next;
+            return refused(3, next);
+        }
+        let factors = self.next;
+        let read = sound::fill(bytes, &factors, samples, marks);
+        let counted = blocks::gathered(read);
+        answered(self, bytes, counted)
+    }
+}
