@@ -8,31 +8,25 @@
 -- Assumes nothing.
 use mathlib.Core.Path.{_≡_, sym, ap, _∙_}
 use mathlib.Core.Logic.{_≢_}
-use mathlib.Core.Bool.{true}
-use mathlib.Core.List.{List, [], _∷_, _++_}
+use mathlib.Core.List.{List, _++_}
 use Prim.Native.Nat.{ℕ, zero, suc, _+_, _-_, _*_, _/_, _%_, _<_, _≤_}
 use native.Mathlib.Omega.{arith}
-use lib.ListN.{length, getD, take, drop, take-append-drop}
-use lib.Seq.{take-take, length-take-le, take-append-le, drop-at}
+use lib.ListN.{length, getD, take, drop, take-append-drop, length-drop}
+use lib.Seq.{take-take, length-take-le}
 use Rattle.bits.specs.Digits.{Below}
-use Rattle.bits.specs.Bits.{bitsOf, bytesOf, ones, areBits}
+use Rattle.bits.specs.Bits.{bitsOf, bytesOf, ones}
 use Rattle.bits.proofs.Table.{tab-ext}
-use Rattle.bits.proofs.Digits.{below-take}
-use Rattle.bits.proofs.Bits.{length-bytesOf, bits-back, below-bits}
-use Rattle.bits.specs.Answer.{accepted}
+use Rattle.bits.proofs.Digits.{below-take, below-drop}
+use Rattle.bits.proofs.Bits.{length-bytesOf, bits-back}
 use Rattle.bits.proofs.Answer.{accepted-same}
 use Rattle.remainder.specs.Polynomial.{_⊕_}
 use Rattle.remainder.proofs.Sum.{length-⊕, below-⊕}
-use Rattle.code.specs.Generators.{blockGenerator}
 use Rattle.code.specs.Words.{CodeWord, encode}
 use Rattle.code.proofs.Distance.{distance-changed}
-use Rattle.code.proofs.Smallest.{code-length}
-use Rattle.code.proofs.Words.{encode-word}
-use Rattle.reading.specs.Reading.{Reading, turned, handed}
-use Rattle.reading.specs.Search.{reading}
 use Rattle.reading.specs.Demand.{sent}
-use Rattle.reading.proofs.Demand.{ordinary as third}
-use Rattle.block.specs.Read.{Said, bad, said, saidOf, handedOn}
+use Rattle.block.specs.Read.{Said, bad, saidWith, saidOf, handedOn}
+use Rattle.block.specs.Demand.{Sent, received}
+use Rattle.block.proofs.Demand.{third}
 use Rattle.frame.specs.Frame.{serviceIn, block, frameBits, placeOf, deinterleave}
 use Rattle.frame.specs.Read.{blockOf, found, readFrame}
 use Rattle.frame.specs.Write.{Written}
@@ -60,90 +54,58 @@ burst-two mask h b =
     77
 
 -- ---- two places of a block
-turned-not-bad : (n : ℕ) (c : List ℕ) → said (turned n c) ≢ bad
-unfolding turned said
-turned-not-bad zero c e = let never : _≡_ {A = ℕ} 0 1 = cc in omega arith
-turned-not-bad (suc n) c e = let never : _≡_ {A = ℕ} 0 1 = cc in omega arith
-
-handed-turned : (w : List ℕ) (n : ℕ) (c : List ℕ) → length w ≡ 63 → length c ≡ 63 → length (handed w (turned n c)) ≡ 63
-unfolding handed turned
-handed-turned w zero c hw hc = hw
-handed-turned w (suc n) c hw hc = hc
+never-bad : (n : ℕ) → saidWith n ≢ bad
+unfolding saidWith
+never-bad zero e = let never : _≡_ {A = ℕ} 0 1 = cc in omega arith
+never-bad (suc n) e = let never : _≡_ {A = ℕ} 0 1 = cc in omega arith
 
 sent-word : (w : List ℕ) → CodeWord w → w ≡ sent (take 44 w)
 unfolding encode
 sent-word w h = sym (take-append-drop 44 w) ∙ ap (λ (l : List ℕ). take 44 w ++ l) (h .checked)
 
 module _ (x m : List ℕ) (size : length x ≡ 77) (places : length m ≡ 77) (bits : Below 2 x) (two : ones m ≤ 2) (word : CodeWord (take 63 x)) where
+  -- the 44 sound bits, the places turned among the 63, and the 14 others as they arrive
   sound : List ℕ
   sound = take 44 x
 
-  received : List ℕ
-  received = x ⊕ m
+  turned : List ℕ
+  turned = take 63 m
 
-  protected-is : take 63 received ≡ sent sound ⊕ take 63 m
-  unfolding sound received
-  protected-is =
-      take-⊕ 63 x m
-      ∙ ap (λ (l : List ℕ). l ⊕ take 63 m) (sent-word (take 63 x) word ∙ ap sent (take-take 44 63 x (omega arith)))
+  other : List ℕ
+  other = drop 63 (x ⊕ m)
 
-  sound-size : length sound ≡ 44
-  unfolding sound
-  sound-size = length-take-le 44 x (omega arith)
+  arrives : x ⊕ m ≡ received sound turned other
+  unfolding sound turned other
+  arrives =
+      sym (take-append-drop 63 (x ⊕ m))
+      ∙ ap (λ (l : List ℕ). l ++ drop 63 (x ⊕ m))
+      (take-⊕ 63 x m ∙ ap (λ (l : List ℕ). l ⊕ take 63 m) (sent-word (take 63 x) word ∙ ap sent (take-take 44 63 x (omega arith))))
 
-  sound-bits : Below 2 sound
-  unfolding sound
-  sound-bits = below-take 2 44 x bits
+  is-sent : Sent sound turned other
+  unfolding sound turned other
+  is-sent =
+      record {
+        sound-size = length-take-le 44 x (omega arith);
+        sound-bits = below-take 2 44 x bits;
+        mask-size = length-take-le 63 m (omega arith);
+        other-size = length-drop 63 (x ⊕ m) ∙ omega (arith, length-⊕ x m (size ∙ sym places));
+        other-bits = below-drop 2 63 (x ⊕ m) (below-⊕ x m);
+      }
 
-  few : ones (take 63 m) ≤ 2
+  few : ones turned ≤ 2
+  unfolding turned
   few = let less = ones-take 63 m in omega arith
 
-  mask-size : length (take 63 m) ≡ 63
-  mask-size = length-take-le 63 m (omega arith)
-
-  are : areBits received ≡ true
-  unfolding received
-  are = below-bits received (below-⊕ x m)
-
-  read-as : reading 2 (take 63 received) ≡ turned (ones (take 63 m)) (sent sound)
-  read-as = ap (reading 2) protected-is ∙ third .number sound (take 63 m) sound-bits sound-size mask-size few
-
-  handed-on : handedOn received ≡ handed (take 63 received) (reading 2 (take 63 received)) ++ drop 63 received
-  unfolding handedOn
-  handed-on = rw are
-
-  handed-size : length (handed (take 63 received) (reading 2 (take 63 received))) ≡ 63
-  unfolding received
-  handed-size =
-      ap (λ (r : Reading). length (handed (take 63 received) r)) read-as
-      ∙ handed-turned (take 63 received) (ones (take 63 m)) (sent sound)
-      (length-take-le 63 received (omega (arith, length-⊕ x m (size ∙ sym places))))
-      (code-length (sent sound) (encode-word 44 blockGenerator sound sound-bits sound-size))
-
-  said-is : saidOf received ≡ accepted (said (turned (ones (take 63 m)) (sent sound)) ∷ [])
-  unfolding saidOf
-  said-is = rw (are, read-as)
-
-  not-bad : saidOf received ≢ accepted (bad ∷ [])
-  not-bad e =
-      turned-not-bad (ones (take 63 m)) (sent sound) (ap (λ (l : List Said). getD l 0 bad) (accepted-same (sym said-is ∙ e)))
-
-  back : take 44 (handedOn received) ≡ take 44 x
-  unfolding sound
-  back =
-      ap (take 44) handed-on
-      ∙ take-append-le 44 (handed (take 63 received) (reading 2 (take 63 received))) (drop 63 received) (omega (arith, handed-size))
-      ∙ ap (λ (w : List ℕ). take 44 (handed w (reading 2 w))) protected-is
-      ∙ third .back sound (take 63 m) sound-bits sound-size mask-size few
-
   pub survives : Survives x (x ⊕ m)
-  unfolding received
+  unfolding sound other
   survives =
       record {
         near = rw (distance-changed x m (size ∙ sym places)) two;
-        not-bad = not-bad;
-        back = back;
-        others = ap (drop 63) handed-on ∙ drop-at (handed (take 63 received) (reading 2 (take 63 received))) (drop 63 received) 63 handed-size;
+        not-bad = λ e.
+            never-bad (ones turned)
+            (ap (λ (l : List Said). getD l 0 bad) (accepted-same (sym (third .number sound turned other is-sent few) ∙ ap saidOf (sym arrives) ∙ e)));
+        back = ap (λ (l : List ℕ). take 44 (handedOn l)) arrives ∙ third .back sound turned other is-sent few;
+        others = ap (λ (l : List ℕ). drop 63 (handedOn l)) arrives ∙ third .others sound turned other is-sent;
       }
 
 -- ---- a written frame, damaged
