@@ -1,10 +1,15 @@
 // Makes the calls that standard input asks for, a line each, and writes each line with its answer behind it, so that a program that shares
 // nothing with this one can check the answers. second/README.md, "Call lines", has the form of lines and answers.
+mod blocks; // blocks.rt: bwrite, bread, bcodes
+mod frames; // frames.rt: fwrite, fread
 mod lines; // lines.rt: a line answered by what it calls
 mod print; // print.rt: text put into a lent buffer
 mod programmes; // programmes.rt: pread, pwrite, name
+mod reels; // reels.rt: header, run, part
 mod samples; // samples.rt: code, sample, codes, samples, factor
+mod scales; // scales.rt: swrite, sread, sextra
 mod signs; // signs.rt: numbers with a sign, and numbers without
+mod states; // states.rt: fresh, lose, service
 mod words; // words.rt: the words of a line
 
 // What is held of the line that is being read.

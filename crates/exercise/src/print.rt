@@ -57,13 +57,16 @@ pub(crate) fn put_row(out: &mut [u8], to: usize, entries: &[u8]) -> usize {
     end
 }
 
+pub(crate) fn put_byte(out: &mut [u8], to: usize, byte: u8) -> usize {
+    let half = put(out, to, digit(byte / 16));
+    put(out, half, digit(byte % 16))
+}
+
 pub(crate) fn put_hex(out: &mut [u8], to: usize, bytes: &[u8]) -> usize {
     let mut end = to;
     let mut i: usize = 0;
     while i < bytes.len() {
-        let byte = bytes[i];
-        let half = put(out, end, digit(byte / 16));
-        end = put(out, half, digit(byte % 16));
+        end = put_byte(out, end, bytes[i]);
         i += 1;
     }
     end

@@ -129,7 +129,7 @@ fn chosen(samples: &[i16], out: &mut [u8], to: usize) -> usize {
 
 fn factor(line: &[u8], at: usize, out: &mut [u8], to: usize) -> usize {
     let mut samples = [0i16; 80];
-    if words::ended(line, words::read_dash(line, at)) {
+    if words::ended(line, words::read_mark(line, at, b'-')) {
         return chosen(&samples[0..0], out, to);
     }
     let count = read_samples(line, at, &mut samples);

@@ -1,7 +1,7 @@
 // The words of a line. A place is where a word starts, and one behind the line's end where none is left; 0, where only the name stands, says
 // that a word before was not of its kind, so that a call reads all its words and asks once.
 ghost use mathlib.Core.Path.{_≡_};
-ghost use Prim.Native.Nat.{_≤_};
+ghost use Prim.Native.Nat.{_<_, _≤_};
 use crate::signs;
 
 pub(crate) struct Number {
@@ -22,7 +22,7 @@ pub(crate) struct Signed {
 const NONE: usize = 0;
 
 // No number of a line is larger.
-const MOST: u64 = 4_294_967_295;
+pub(crate) const MOST: u64 = 4_294_967_295;
 
 fn byte_at(line: &[u8], at: usize) -> u8 {
     if at < line.len() {
@@ -72,8 +72,8 @@ fn value_of(byte: u8) -> u8
     }
 }
 
-fn wide(n: u8) -> u64
-    ensures { λ r. ⌜ r ≡ n ⌝ }
+pub(crate) fn wide(n: u8) -> u64
+    ensures { λ r. ⌜ (r ≡ n) × (r < 256) ⌝ }
 {
     n as u64
 }
@@ -234,13 +234,13 @@ fn end_of(line: &[u8], at: usize) -> usize {
     end
 }
 
-// The place behind a dash.
-pub(crate) fn read_dash(line: &[u8], at: usize) -> usize {
+// The place behind a word that is one character.
+pub(crate) fn read_mark(line: &[u8], at: usize, mark: u8) -> usize {
     if at == NONE {
         return NONE;
     }
     if at < line.len() {
-        if line[at] == b'-' {
+        if line[at] == mark {
             return behind(line, at + 1);
         }
     }
@@ -249,7 +249,7 @@ pub(crate) fn read_dash(line: &[u8], at: usize) -> usize {
 
 // How many bytes a word stands for: none for a dash, up to 64, or 65 where it is no such word.
 pub(crate) fn bytes_in(line: &[u8], at: usize) -> usize {
-    if read_dash(line, at) != NONE {
+    if read_mark(line, at, b'-') != NONE {
         return 0;
     }
     let end = end_of(line, at);
@@ -266,7 +266,7 @@ pub(crate) fn bytes_in(line: &[u8], at: usize) -> usize {
 // The bytes of such a word, for which there is just the room.
 pub(crate) fn read_bytes(line: &[u8], at: usize, lent: &mut [u8]) -> usize {
     if lent.len() == 0 {
-        return read_dash(line, at);
+        return read_mark(line, at, b'-');
     }
     read_hex(line, at, lent)
 }
