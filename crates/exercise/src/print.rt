@@ -46,7 +46,7 @@ fn digit(n: u8) -> u8 {
     if n < 10 { 48 + n } else { 87 + n % 16 }
 }
 
-// A row of entries, each a digit: a block that was read with number 2 may hold more than bits.
+// A row of entries, a digit each: bits are all that a call hands back, and the remainder keeps anything else from being taken for another sign.
 pub(crate) fn put_row(out: &mut [u8], to: usize, entries: &[u8]) -> usize {
     let mut end = to;
     let mut i: usize = 0;
