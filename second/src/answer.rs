@@ -202,14 +202,12 @@ impl<'a> Words<'a> {
         all?.try_into().ok()
     }
 
-    /// A decimal number from `low` to `high`.
+    /// A decimal number from `low` to `high`, in the one way of writing it: no `+`, no leading zeros, no `-0`.
     fn number(&mut self, low: i64, high: i64) -> Option<i64> {
         let word = self.next()?;
-        if word.starts_with('+') {
-            return None;
-        }
-        let number = word.parse().ok()?;
-        (low..=high).contains(&number).then_some(number)
+        let number: i64 = word.parse().ok()?;
+        let plain = number.to_string() == word;
+        (plain && (low..=high).contains(&number)).then_some(number)
     }
 
     /// From 0 to 255.

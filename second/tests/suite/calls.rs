@@ -221,6 +221,8 @@ fn unreadable_lines() {
         "pread 1 ",
         "pread 1 1",
         "pread +1",
+        "pread 01",
+        "code -0 3",
         "pread 1.0",
         "fresh\r",
     ] {
