@@ -5,7 +5,8 @@
 --     length-bitsOf, length-bytesOf    how many there are
 --     bytes-back, bits-back        bytes made of bytes' bits are those bytes; bits of the bytes that bits make are those bits
 --     ones-append, ones-digits     ones of two rows of bits; of a number's digits, taken off from the lowest
---     bits-below, below-bits       numbers that are bits are digits in base 2, and the other way round
+--     all-below, below-all         numbers that pass the test are digits in that base, and the other way round
+--     bits-below, below-bits       the same of bits
 -- Assumes nothing.
 use mathlib.Core.Path.{_≡_, refl, sym, ap, ap₂, _∙_, subst}
 use mathlib.Core.Bool.{true}
@@ -14,13 +15,13 @@ use Prim.Native.Nat.{ℕ, zero, suc, _+_, _-_, _*_, _/_, _%_, _^_, _<_, _≤_}
 use native.Mathlib.Nat.{mod-lt, mod-eq-of-lt}
 use native.Mathlib.Numerals.{add-one}
 use native.Mathlib.Omega.{arith}
-use borrow.Author.Tests.{le-leb, leb-true}
-use lib.Dec.{leb}
+use borrow.Author.Tests.{lt-ltb, ltb-true}
+use lib.Dec.{ltb}
 use lib.ListN.{length, getD, List·getD-eq-default}
 use lib.Seq.{ext-getD}
 use Rattle.bits.specs.Table.{tabulate, every}
 use Rattle.bits.specs.Digits.{value, digits, Below}
-use Rattle.bits.specs.Bits.{bitAt, bitsOf, eightAt, byteAt, bytesOf, ones, areBits}
+use Rattle.bits.specs.Bits.{bitAt, bitsOf, eightAt, byteAt, bytesOf, ones, allBelow, areBits}
 use Rattle.bits.proofs.Table.{length-tab, getD-tab, tab-ext, tab-getD}
 use Rattle.bits.proofs.Tests.{both-true}
 use Rattle.bits.proofs.Digits.{length-digits, getD-digits, below-digits, below-getD, below-tab, value-digits, digits-value}
@@ -105,13 +106,19 @@ pub ones-digits : (n x : ℕ) → ones (digits 2 (n + 1) x) ≡ ones (digits 2 n
 unfolding ones digits
 ones-digits n x = rw (add-one n, ones-append (digits 2 n (x / 2)) (x % 2 ∷ [])) (omega arith)
 
--- ---- numbers that are bits
+-- ---- numbers below a bound
+pub all-below : (b : ℕ) (l : List ℕ) → allBelow b l ≡ true → Below b l
+unfolding allBelow every Below
+all-below b [] e = tt
+all-below b (x ∷ l) e = let both = both-true (ltb x b) (allBelow b l) e in (ltb-true x b (both .0), all-below b l (both .1))
+
+pub below-all : (b : ℕ) (l : List ℕ) → Below b l → allBelow b l ≡ true
+unfolding allBelow every Below
+below-all b [] h = refl
+below-all b (x ∷ l) h = rw (lt-ltb x b (h .0)) (below-all b l (h .1))
+
 pub bits-below : (l : List ℕ) → areBits l ≡ true → Below 2 l
-unfolding areBits every Below
-bits-below [] e = tt
-bits-below (x ∷ l) e = let both = both-true (leb x 1) (areBits l) e in let small : x ≤ 1 = leb-true x 1 (both .0) in (omega arith, bits-below l (both .1))
+bits-below l e = all-below 2 l e
 
 pub below-bits : (l : List ℕ) → Below 2 l → areBits l ≡ true
-unfolding areBits every Below
-below-bits [] h = refl
-below-bits (x ∷ l) h = let small : x < 2 = h .0 in rw (le-leb x 1 (omega arith)) (below-bits l (h .1))
+below-bits l h = below-all 2 l h

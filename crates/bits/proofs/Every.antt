@@ -2,6 +2,7 @@
 --     every-take                   one element more
 --     every-each, each-every       it passes exactly where it passes at each element
 --     every-fails                  one element at which it fails
+--     every-tab                    a table, each of whose entries passes
 --     every-at                     a table's rule: one test that is computed over the whole table says it of each entry
 -- Assumes nothing.
 use mathlib.Core.Path.{_≡_, refl, sym, _∙_}
@@ -14,7 +15,7 @@ use native.Mathlib.Omega.{arith}
 use lib.ListN.{length, getD, take}
 use lib.Seq.{take-suc}
 use lib.Dec.{T}
-use Rattle.bits.specs.Table.{every}
+use Rattle.bits.specs.Table.{tabulate, every}
 use Rattle.bits.proofs.Tests.{either-way, both-true}
 
 head : (a b : Bool) → T (a && b) → T a
@@ -47,6 +48,11 @@ module _ {A : Type 0} (f : A → Bool) where
 
   pub every-fails : (xs : List A) (i : ℕ) (d : A) → i < length xs → f (getD xs i d) ≡ false → every f xs ≡ false
   every-fails xs i d l t = either-way (every f xs) (λ u. absurd (true≢false (sym (every-each xs i d u l) ∙ t))) (λ u. u)
+
+  pub every-tab : (n : ℕ) (g : ℕ → A) → ((i : ℕ) → i < n → f (g i) ≡ true) → every f (tabulate n g) ≡ true
+  unfolding tabulate every
+  every-tab zero g h = refl
+  every-tab (suc n) g h = rw (every-snoc (tabulate n g) (g n), every-tab n g (λ i l. h i (omega arith)), h n (omega arith))
 
   pub every-at : (xs : List A) (k : ℕ) (d : A) → T (every f xs) → k < length xs → T (f (getD xs k d))
   unfolding every

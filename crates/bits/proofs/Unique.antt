@@ -7,7 +7,7 @@ use mathlib.Core.Bool.{Bool}
 use mathlib.Core.List.{List}
 use Prim.Native.Nat.{ℕ}
 use lib.ListN.{getD}
-use Rattle.bits.specs.Bits.{bitAt, byteAt, areBits}
+use Rattle.bits.specs.Bits.{bitAt, byteAt, allBelow, areBits}
 
 pub same : {A : Type 0} {r r' v : A} → r ≡ v → r' ≡ v → r ≡ r'
 same p q = p ∙ sym q
@@ -27,3 +27,6 @@ module _ (r r' : ℕ) (l : List ℕ) (k : ℕ) where
 
 pub are-bits-unique : (r r' : Bool) (l : List ℕ) → r ≡ areBits l → r' ≡ areBits l → r ≡ r'
 are-bits-unique r r' l = same
+
+pub all-below-unique : (r r' : Bool) (b : ℕ) (l : List ℕ) → r ≡ allBelow b l → r' ≡ allBelow b l → r ≡ r'
+all-below-unique r r' b l = same

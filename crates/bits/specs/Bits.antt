@@ -6,11 +6,12 @@
 --     byteAt bits at    the byte that those eight bits make
 --     bytesOf bits      the bytes that the bits make, eight bits each; what is left over at the end makes none
 --     ones bits         how many of the bits are 1
---     areBits l         whether each of some numbers is a bit: 0 or 1
+--     allBelow b l      whether each of some numbers is less than a bound
+--     areBits l         whether each is a bit: 0 or 1
 use Prim.Native.Nat.{ℕ, _+_, _*_, _-_, _/_, _%_, _^_}
 use mathlib.Core.Bool.{Bool}
 use mathlib.Core.List.{List, [], _∷_}
-use lib.Dec.{leb}
+use lib.Dec.{ltb}
 use lib.ListN.{length, getD}
 use Rattle.bits.specs.Table.{tabulate, every}
 use Rattle.bits.specs.Digits.{value, digits}
@@ -34,5 +35,8 @@ unfoldable pub ones : List ℕ → ℕ
 ones [] = 0
 ones (x ∷ bits) = x % 2 + ones bits
 
-unfoldable pub areBits : List ℕ → Bool
-areBits l = every (λ x. leb x 1) l
+unfoldable pub allBelow : ℕ → List ℕ → Bool
+allBelow b l = every (λ x. ltb x b) l
+
+abbrev pub areBits : List ℕ → Bool
+areBits l = allBelow 2 l

@@ -2,7 +2,7 @@
 ghost use mathlib.Core.Path.{_≡_};
 ghost use Prim.Native.Nat.{_+_, _%_};
 ghost use lib.ListN.{getD};
-ghost use Rattle.bits.specs.Bits.{bitAt, byteAt, areBits};
+ghost use Rattle.bits.specs.Bits.{bitAt, byteAt, allBelow, areBits};
 
 // Byte i, and 0 past the end.
 pub fn byte_of(bytes: &[u8], i: usize) -> u8
@@ -45,16 +45,23 @@ pub fn byte_from(bits: &[u8], at: usize) -> u8
     sum
 }
 
-// Whether each number of a list is a bit.
-pub fn are_bits(list: &[u8]) -> bool
-    ensures { λ r. ⌜ r ≡ areBits (now (list .entry)) ⌝ }
+// Whether each number of a list is less than a bound.
+pub fn all_below(list: &[u8], bound: u8) -> bool
+    ensures { λ r. ⌜ r ≡ allBelow bound (now (list .entry)) ⌝ }
 {
     let mut i: usize = 0;
     while i < list.len() {
-        if 1 < list[i] {
+        if bound <= list[i] {
             return false;
         }
         i += 1;
     }
     true
+}
+
+// Whether each number of a list is 0 or 1.
+pub fn are_bits(list: &[u8]) -> bool
+    ensures { λ r. ⌜ r ≡ areBits (now (list .entry)) ⌝ }
+{
+    all_below(list, 2)
 }

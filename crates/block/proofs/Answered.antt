@@ -1,30 +1,30 @@
 -- The reader's answer from the places found.
---     turn-front, turn-small       a bit turned among the first ones of a row; it is 0 or 1
+--     length-turn, turn-front      a bit turned: how long the row is; among the first ones of a row
 --     outcome block p              what the code answers where p are the wrong places
 --     found-read                   that is the reading
 --     out-of-range                 and so is the refusal
 -- Assumes nothing.
-use mathlib.Core.Path.{_≡_, refl, sym, ap, ap₂, _∙_}
+use mathlib.Core.Path.{_≡_, refl, sym, ap, _∙_}
 use mathlib.Core.Bool.{true, false}
 use mathlib.Core.List.{List, [], _∷_, _++_}
 use Prim.Native.Nat.{ℕ, _+_, _%_, _<_}
 use native.Mathlib.Omega.{arith}
-use lib.ListN.{length, getD, take, drop, set, length-set, take-append-drop}
-use lib.Seq.{length-take-le, getD-take, set-append-left}
+use lib.ListN.{length, getD, drop, set, length-set, take-append-drop}
+use lib.Seq.{length-take-le, set-append-left}
 use Rattle.bits.specs.Bits.{areBits}
 use Rattle.bits.specs.Digits.{value}
-use Rattle.bits.specs.Answer.{accepted, refused}
+use Rattle.bits.specs.Answer.{accepted}
 use Rattle.bits.proofs.Digits.{below-take}
 use Rattle.bits.proofs.Bits.{bits-below}
 use Rattle.remainder.specs.Remainder.{remainder}
 use Rattle.code.specs.Generators.{blockGenerator}
-use Rattle.reading.specs.Reading.{Reading, handed}
+use Rattle.reading.specs.Reading.{handed}
 use Rattle.reading.specs.Search.{reading}
 use Rattle.reading.specs.Wrong.{turn, readAs, answer, wrongPlaces, Within}
 use Rattle.reading.specs.declared.Places.{Places}
 use Rattle.reading.specs.declared.Places.the-variants.{Zero, One, Two, Nowhere}
 use Rattle.reading.proofs.Answered.{answered-reading, answered-within}
-use Rattle.block.specs.Read.{said, protected, saidOf, handedOn, told, IsRead}
+use Rattle.block.specs.Read.{ordinary, said, protected, saidOf, handedOn, told, IsRead}
 use Rattle.block.specs.declared.BlockReading.the-variants.{Clean, Mended, Bad, OutOfRange}
 use Rattle.block.specs.declared.BlockRead.{BlockRead}
 
@@ -79,7 +79,7 @@ module _ (block : List ℕ) (size : length block ≡ 77) (bits : areBits block �
   pub found-read : (r : ℕ) (p : Places) → r ≡ value 2 (remainder blockGenerator (protected block)) → answer p ≡ wrongPlaces 2 r → IsRead block (outcome block p)
   unfolding saidOf handedOn
   found-read r p e a =
-      let read : reading 2 (protected block) ≡ readAs (protected block) p =
+      let read : reading ordinary (protected block) ≡ readAs (protected block) p =
       answered-reading (protected block) r p front (below-take 2 63 block (bits-below block bits)) e a in
       record {
         answer = rw (bits, read) (says p);

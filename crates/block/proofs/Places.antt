@@ -1,13 +1,14 @@
 -- Laws of the 77 bits.
 --     code-bit-is           bit k of a code by a shift
---     length-sound, below-sound, sound-at      the 44 sound bits, and which stands where
+--     length-sound, below-sound, sound-at      the 44 protected sound bits, and which stands where
+--     length-rest, below-rest, rest-at         the 12 unprotected ones
 --     length-block, at-sound, at-check, at-rest, at-extra      the whole block, and which bit stands where
 --     length-fourteen, below-fourteen, fourteen-at             the 14 bits of a channel, and where they stand
 --     last-two                                                 a list's last two elements
 -- Assumes nothing.
-use mathlib.Core.Path.{_≡_, refl, sym, ap, _∙_}
+use mathlib.Core.Path.{_≡_, sym, ap, _∙_}
 use mathlib.Core.List.{List, [], _∷_, _++_, map}
-use Prim.Native.Nat.{ℕ, zero, suc, _+_, _-_, _*_, _/_, _%_, _^_, _<_, _≤_}
+use Prim.Native.Nat.{ℕ, suc, _+_, _-_, _*_, _/_, _%_, _^_, _<_, _≤_}
 use native.Mathlib.Numerals.{add-one}
 use native.Mathlib.Omega.{arith}
 use borrow.Author.Tests.{ltb-true, ltb-false}
@@ -22,12 +23,12 @@ use Rattle.code.specs.Words.{encode}
 use Rattle.code.proofs.Smallest.{block-size}
 use Rattle.remainder.specs.Remainder.{checkBits}
 use Rattle.remainder.proofs.Division.{length-check, below-check}
-use Rattle.bits.specs.Digits.{value, digits, Below}
+use Rattle.bits.specs.Digits.{value, Below}
 use Rattle.bits.proofs.Digits.{getD-digits, digits-value, below-append, below-take, below-drop}
 use Rattle.sample.specs.Pattern.{codeBits, patternOf}
 use Rattle.sample.proofs.Patterns.{length-codeBits, below-codeBits}
 use Rattle.block.specs.Layout.{joined, upper, lower, sound, rest, blockOf, fourteen, placeOf}
-use Rattle.block.proofs.Joined.{length-joined, getD-joined}
+use Rattle.block.proofs.Joined.{length-joined, getD-joined, below-joined}
 
 pub code-bit-is : (c : ℤ) (k : ℕ) → k < 14 → patternOf 8192 c / 2 ^ (13 - k) % 2 ≡ getD (codeBits c) k 0
 unfolding codeBits
@@ -46,6 +47,14 @@ length-sound codes = length-joined 11 upper length-upper codes
 pub length-rest : (codes : List ℤ) → length (rest codes) ≡ 3 * length codes
 unfolding rest
 length-rest codes = length-joined 3 lower length-lower codes
+
+pub below-sound : (codes : List ℤ) → Below 2 (sound codes)
+unfolding sound
+below-sound codes = below-joined 2 upper (λ c. below-take 2 11 (codeBits c) (below-codeBits c)) codes
+
+pub below-rest : (codes : List ℤ) → Below 2 (rest codes)
+unfolding rest
+below-rest codes = below-joined 2 lower (λ c. below-drop 2 11 (codeBits c) (below-codeBits c)) codes
 
 pub sound-at : (codes : List ℤ) (j : ℕ) → j < 11 * length codes → getD (codeBits (getD codes (j / 11) (pos 0))) (j % 11) 0 ≡ getD (sound codes) j 0
 unfolding sound

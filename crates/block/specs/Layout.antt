@@ -48,6 +48,7 @@ blockOf codes extra = encode blockGenerator (sound codes) ++ (rest codes ++ extr
 unfoldable pub fourteen : List ℕ → ℕ → List ℕ
 fourteen block c = take 11 (drop (11 * c) block) ++ take 3 (drop (63 + 3 * c) block)
 
+-- the lower bits, k from 11 on, stand behind the first 63: 63 - 11 is 52
 unfoldable pub placeOf : ℕ → ℕ → ℕ
 placeOf c k = cond (ltb k 11) (11 * c + k) (52 + 3 * c + k)
 

@@ -1,12 +1,14 @@
 -- Reading a block (document 01, "The block"; the mission's second demand): its 63 protected bits at the ordinary radius 2, its 14 others as received.
 --     Said              what is said of a block: clean, mended with a number of places, bad
 --     said r            that of a reading of the 63 bits
+--     saidWith n        what is said where n places were turned: clean at 0, mended above
+--     ordinary          the radius of every reading here
 --     protected block   the 63 protected bits
 --     saidOf block      what reading a block answers: number 2 for an entry that is not 0 or 1
 --     handedOn block    the 77 bits handed on: the 63 put right where they were mended, all as received otherwise
 --     told r            the number and the value that each case of the code's answer stands for
 --     IsRead block r    THE PROMISE of the reader
-use Prim.Native.Nat.{ℕ}
+use Prim.Native.Nat.{ℕ, zero, suc}
 use mathlib.Core.Path.{_≡_}
 use mathlib.Core.Bool.{cond}
 use mathlib.Core.List.{List, [], _∷_, _++_}
@@ -29,6 +31,10 @@ unfoldable pub said : Reading → Said
 said R.clean = clean
 said (R.mended n c) = mended n
 said R.bad = bad
+
+unfoldable pub saidWith : ℕ → Said
+saidWith zero = clean
+saidWith (suc n) = mended (suc n)
 
 abbrev pub ordinary : ℕ
 ordinary = 2

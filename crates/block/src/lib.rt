@@ -1,7 +1,7 @@
 // The block: 77 bits held as [u8; 77], one number per bit (document 01, "The block").
 use reading::Places;
 ghost use mathlib.Core.Path.{_≡_};
-ghost use mathlib.Core.Bool.{true};
+ghost use mathlib.Core.Bool.{true, _&&_};
 ghost use Prim.Native.Nat.{_<_};
 ghost use lib.IntN.{pos};
 ghost use lib.ListN.{getD};
@@ -54,6 +54,16 @@ fn are_codes(codes: [i16; 4]) -> bool
     true
 }
 
+fn in_range(codes: [i16; 4], extra: [u8; 2]) -> bool
+    ensures { λ r. ⌜ r ≡ (every isCode codes && areBits extra) ⌝ }
+{
+    if are_codes(codes) {
+        bits::are_bits(&extra)
+    } else {
+        false
+    }
+}
+
 // Bit k of the 14 bits of a code, the highest first.
 fn code_bit(code: i16, k: usize) -> u8
     requires { ⌜ k < 14 ⌝ }
@@ -62,6 +72,7 @@ fn code_bit(code: i16, k: usize) -> u8
     ((sample::pattern::pattern_of(code) >> (13 - k)) % 2) as u8
 }
 
+// The 44 protected sound bits.
 fn sound_of(codes: [i16; 4]) -> [u8; 44]
     ensures { λ r. ⌜ r ≡ sound codes ⌝ }
 {
@@ -74,7 +85,7 @@ fn sound_of(codes: [i16; 4]) -> [u8; 44]
     out
 }
 
-// The whole block, from codes that are in range.
+// The whole block: 44 sound bits, 19 check bits, 12 sound bits, 2 extra bits.
 fn bits_of(codes: [i16; 4], extra: [u8; 2]) -> [u8; 77]
     ensures { λ r. ⌜ r ≡ blockOf codes extra ⌝ }
 {
@@ -101,13 +112,7 @@ fn bits_of(codes: [i16; 4], extra: [u8; 2]) -> [u8; 77]
 pub fn write(codes: [i16; 4], extra: [u8; 2]) -> BlockWritten
     ensures { λ r. ⌜ r ≡ writtenBlock codes extra ⌝ }
 {
-    if !are_codes(codes) {
-        return BlockWritten {
-            number: 2,
-            bits: [0u8; 77],
-        };
-    }
-    if !bits::are_bits(&extra) {
+    if !in_range(codes, extra) {
         return BlockWritten {
             number: 2,
             bits: [0u8; 77],
@@ -119,7 +124,7 @@ pub fn write(codes: [i16; 4], extra: [u8; 2]) -> BlockWritten
     }
 }
 
-// Where bit k of a channel's 14 stands in a block.
+// Where bit k of a channel's 14 stands in a block: 52 is 63 - 11, as the lower bits, from k 11 on, stand behind the first 63.
 fn place_of(channel: usize, k: usize) -> usize
     requires { ⌜ (channel < 4) × (k < 14) ⌝ }
     ensures { λ r. ⌜ (r ≡ placeOf channel k) × (r < 77) ⌝ }
@@ -185,6 +190,7 @@ fn turned(bits: [u8; 77], place: usize) -> [u8; 77]
     out
 }
 
+// Bad is a reading and no refusal: such a block is handed on as it was received. The last 14 bits are never changed.
 pub fn read(bits: [u8; 77]) -> BlockRead
     ensures { λ r. ⌜ IsRead bits r ⌝ }
 {

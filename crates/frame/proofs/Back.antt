@@ -1,11 +1,12 @@
 -- What is written is read back, and what is read is written back.
---     block-there            block b of a frame, gathered from the bits
---     reads                  what 40 bytes read as, by their bits, where the sync is right
---     good-values, good-frame    blocks and a service bit that are written are bits, and so is the frame
---     frame-bits             the bits of the bytes of a frame
---     written-reads          THE FIRST: a frame that was written reads as the service bit sent and the four blocks
---     read-zero, bits-kept   number 0 says that there are 40 bytes whose sync is right; the frame's bits, but for B's service bit
---     read-writes            THE SECOND: what a frame reads as is written as that frame, B with its service bit 0
+--     block-there, sent-twice     a block that a frame has; what is carried of a service bit that was carried
+--     reads                       what 40 bytes read as, by their bits, where the sync is right
+--     good-blocks, below-frame    entries that pass the test are bits, and so is the whole frame
+--     frame-bits, frame-bytes     the bits of a frame's bytes; there are 40
+--     written-reads               THE FIRST: a frame that was written reads as the service bit sent and the four blocks
+--     read-zero, read-found       number 0 says that there are 40 bytes whose sync is right, and what was found
+--     bits-kept                   writing that makes the frame's bits again, but for B's service bit
+--     read-writes                 THE SECOND: what a frame reads as is written as that frame, B with its service bit 0
 -- Assumes nothing.
 use mathlib.Core.Path.{_≡_, refl, sym, ap, _∙_, subst}
 use mathlib.Core.Bool.{Bool, true, false, cond}
@@ -20,23 +21,22 @@ use lib.ListN.{length, getD, set, length-set}
 use lib.Seq.{ext-getD, set-getD, getD-set-same, getD-set-other}
 use Rattle.bits.specs.Table.{tabulate, every}
 use Rattle.bits.specs.Digits.{Below}
-use Rattle.bits.specs.Bits.{bitAt, bitsOf, bytesOf}
-use Rattle.bits.proofs.Table.{length-tab, getD-tab, tab-ext, tab-getD}
+use Rattle.bits.specs.Bits.{bitAt, bitsOf, bytesOf, areBits}
+use Rattle.bits.proofs.Table.{getD-tab, tab-ext, tab-getD}
 use Rattle.bits.proofs.Tests.{both-true}
-use Rattle.bits.proofs.Digits.{below-tab}
-use Rattle.bits.proofs.Bits.{length-bitsOf, length-bytesOf, bytes-back, bits-back}
-use Rattle.frame.specs.Frame.{syncWord, serviceIn, interleave, block, frameBits, frameBytes, placeOf, deinterleave, blockAt, bitAtPlace}
+use Rattle.bits.proofs.Bits.{length-bitsOf, length-bytesOf, bytes-back, bits-back, bits-below, below-bits}
+use Rattle.frame.specs.Frame.{syncWord, serviceIn, interleave, block, frameBits, frameBytes, deinterleave, blockAt, bitAtPlace}
 use Rattle.frame.specs.Read.{wrongSync, serviceRead, blockOf, blocksIn, nothing, found, blocksOf, readFrame, serviceCleared}
-use Rattle.frame.specs.Write.{isBit, goodValues, Written}
+use Rattle.frame.specs.Write.{goodValues, Written}
 use Rattle.frame.specs.declared.FrameRead.{FrameRead}
 use Rattle.frame.specs.declared.Letter.{Letter}
 use Rattle.frame.specs.declared.Letter.the-variants.{A, B}
-use Rattle.frame.proofs.Rows.{bit-below, bitsOf-at, bitAt-below, below-bitsOf}
+use Rattle.frame.proofs.Rows.{bitsOf-at, bitAt-below, below-bitsOf}
 use Rattle.frame.proofs.Interleave.{below-interleave}
 use Rattle.frame.proofs.Parts.{below-parts}
 use Rattle.frame.proofs.Sync.{length-sync, below-sync, sync-matches, sync-right}
-use Rattle.frame.proofs.Places.{place-belongs, Sized, length-frame, frame-sync, frame-service, placed, blocks-gathered}
-use Rattle.frame.proofs.Writing.{number-none, success, written-is, bits-below, below-bits}
+use Rattle.frame.proofs.Places.{place-belongs, length-gathered, gathered-at, below-gathered, Sized, length-frame, frame-sync, frame-service, placed, blocks-gathered}
+use Rattle.frame.proofs.Writing.{number-none, success, written-is}
 
 pub block-there : (bytes : List ℕ) (b : ℕ) → b < 4 → blockOf bytes b ≡ deinterleave (bitsOf bytes) b
 unfolding blockOf
@@ -78,13 +78,13 @@ module _ (letter : Letter) (bytes bits : List ℕ) (sized : length bytes ≡ 40)
       )
 
 -- ---- what is written is read back
-pub good-blocks : (n : ℕ) (blocks : List (List ℕ)) → every (every isBit) blocks ≡ true → Below 2 (block blocks n)
+pub good-blocks : (n : ℕ) (blocks : List (List ℕ)) → every areBits blocks ≡ true → Below 2 (block blocks n)
 unfolding every Below
 good-blocks n [] e = tt
-good-blocks zero (x ∷ blocks) e = bits-below x (both-true (every isBit x) (every (every isBit) blocks) e .0)
-good-blocks (suc n) (x ∷ blocks) e = good-blocks n blocks (both-true (every isBit x) (every (every isBit) blocks) e .1)
+good-blocks zero (x ∷ blocks) e = bits-below x (both-true (areBits x) (every areBits blocks) e .0)
+good-blocks (suc n) (x ∷ blocks) e = good-blocks n blocks (both-true (areBits x) (every areBits blocks) e .1)
 
-module _ (letter : Letter) (s : ℕ) (blocks : List (List ℕ)) (sized : Sized blocks) (small : s < 2) (good : every (every isBit) blocks ≡ true) where
+module _ (letter : Letter) (s : ℕ) (blocks : List (List ℕ)) (sized : Sized blocks) (small : s < 2) (good : every areBits blocks ≡ true) where
   pub below-frame : Below 2 (frameBits letter s blocks)
   unfolding frameBits
   below-frame =
@@ -120,10 +120,6 @@ written-reads letter s blocks out frame sized w =
     ap (readFrame letter) (good .2) ∙ frame-reads letter s blocks sized (good .0) (good .1)
 
 -- ---- what is read is written back
-gathered-at : (bits : List ℕ) (b j : ℕ) → j < 77 → getD (deinterleave bits b) j 0 ≡ getD bits (placeOf b j) 0
-unfolding deinterleave
-gathered-at bits b j h = getD-tab 77 (λ j. getD bits (placeOf b j) 0) j 0 h
-
 read-ways : (a b : Bool) (x y z : FrameRead) → (y .number ≡ 0 → ⊥) → (z .number ≡ 0 → ⊥) → cond a (cond b x y) z .number ≡ 0 → (a ≡ true) × (b ≡ true)
 read-ways true true x y z hy hz e = (refl, refl)
 read-ways true false x y z hy hz e = absurd (hy e)
@@ -162,17 +158,13 @@ module _ (letter : Letter) (bytes : List ℕ) (taken : readFrame letter bytes .n
   each (suc (suc (suc (suc b)))) h = absurd (omega arith)
 
   sized-blocks : Sized (blocksIn bytes)
-  unfolding deinterleave
-  sized-blocks b h = ap length (each b h) ∙ length-tab 77 (λ j. getD (bitsOf bytes) (placeOf b j) 0)
+  sized-blocks b h = ap length (each b h) ∙ length-gathered (bitsOf bytes) b
 
-  below-blocks : (b : ℕ) → b < 4 → every isBit (block (blocksIn bytes) b) ≡ true
-  unfolding deinterleave
+  below-blocks : (b : ℕ) → b < 4 → areBits (block (blocksIn bytes) b) ≡ true
   below-blocks b h =
-      ap (every isBit) (each b h)
-      ∙ below-bits (deinterleave (bitsOf bytes) b)
-      (below-tab 2 77 (λ j. getD (bitsOf bytes) (placeOf b j) 0) (λ j l. bit-below (bitsOf bytes) (placeOf b j) (below-bitsOf bytes)))
+      ap areBits (each b h) ∙ below-bits (deinterleave (bitsOf bytes) b) (below-gathered (bitsOf bytes) b (below-bitsOf bytes))
 
-  all-bits : every (every isBit) (blocksIn bytes) ≡ true
+  all-bits : every areBits (blocksIn bytes) ≡ true
   unfolding every
   all-bits =
       rw (below-blocks 0 (omega arith), below-blocks 1 (omega arith), below-blocks 2 (omega arith), below-blocks 3 (omega arith))
@@ -220,7 +212,7 @@ module _ (letter : Letter) (bytes : List ℕ) (taken : readFrame letter bytes .n
 
   pub read-writes : Below 256 bytes → (out : List ℕ) → length out ≡ 40
       → Written letter (readFrame letter bytes .service) (blocksOf (readFrame letter bytes)) out 0 (serviceCleared letter bytes)
-  unfolding goodValues isBit
+  unfolding goodValues
   read-writes h out sized =
       rw read-found
       (success letter (serviceRead letter bytes) (blocksIn bytes) out 0

@@ -8,37 +8,40 @@
 -- Assumes nothing.
 use mathlib.Core.Path.{_≡_, sym, ap, _∙_}
 use mathlib.Core.Logic.{_≢_}
-use mathlib.Core.List.{List, _++_}
+use mathlib.Core.Bool.{true}
+use mathlib.Core.List.{List, [], _∷_, _++_}
 use Prim.Native.Nat.{ℕ, zero, suc, _+_, _-_, _*_, _/_, _%_, _<_, _≤_}
 use native.Mathlib.Omega.{arith}
-use lib.ListN.{length, getD, take, take-append-drop}
-use lib.Seq.{take-take, length-take-le}
+use lib.ListN.{length, getD, take, drop, take-append-drop}
+use lib.Seq.{take-take, length-take-le, take-append-le, drop-at}
 use Rattle.bits.specs.Digits.{Below}
-use Rattle.bits.specs.Bits.{bitsOf, bytesOf, ones}
-use Rattle.bits.proofs.Table.{length-tab, tab-ext}
+use Rattle.bits.specs.Bits.{bitsOf, bytesOf, ones, areBits}
+use Rattle.bits.proofs.Table.{tab-ext}
 use Rattle.bits.proofs.Digits.{below-take}
-use Rattle.bits.proofs.Bits.{length-bytesOf, bits-back}
+use Rattle.bits.proofs.Bits.{length-bytesOf, bits-back, below-bits}
+use Rattle.bits.specs.Answer.{accepted}
+use Rattle.bits.proofs.Answer.{accepted-same}
 use Rattle.remainder.specs.Polynomial.{_⊕_}
 use Rattle.remainder.proofs.Sum.{length-⊕, below-⊕}
+use Rattle.code.specs.Generators.{blockGenerator}
 use Rattle.code.specs.Words.{CodeWord, encode}
 use Rattle.code.proofs.Distance.{distance-changed}
-use Rattle.reading.specs.Reading.{bad, turned}
+use Rattle.code.proofs.Smallest.{code-length}
+use Rattle.code.proofs.Words.{encode-word}
+use Rattle.reading.specs.Reading.{Reading, turned, handed}
 use Rattle.reading.specs.Search.{reading}
 use Rattle.reading.specs.Demand.{sent}
-use Rattle.reading.proofs.Demand.{ordinary}
+use Rattle.reading.proofs.Demand.{ordinary as third}
+use Rattle.block.specs.Read.{Said, bad, said, saidOf, handedOn}
 use Rattle.frame.specs.Frame.{serviceIn, block, frameBits, placeOf, deinterleave}
 use Rattle.frame.specs.Read.{blockOf, found, readFrame}
 use Rattle.frame.specs.Write.{Written}
 use Rattle.frame.specs.Burst.{damaged, damagedBlocks, Burst, Survives}
 use Rattle.frame.specs.declared.Letter.{Letter}
 use Rattle.frame.proofs.Rows.{bit-below, getD-⊕, ⊕-tab, take-⊕, ones-take, ones-window}
-use Rattle.frame.proofs.Places.{Sized, length-frame, frame-sync, frame-service, blocks-gathered}
+use Rattle.frame.proofs.Places.{length-gathered, Sized, length-frame, frame-sync, frame-service, blocks-gathered}
 use Rattle.frame.proofs.Writing.{written-is}
 use Rattle.frame.proofs.Back.{block-there, reads, sent-twice, good-blocks, below-frame, frame-bits}
-
-length-gathered : (bits : List ℕ) (b : ℕ) → length (deinterleave bits b) ≡ 77
-unfolding deinterleave
-length-gathered bits b = length-tab 77 (λ j. getD bits (placeOf b j) 0)
 
 pub gathered-⊕ : (p q : List ℕ) (b : ℕ) → length p ≡ length q → deinterleave (p ⊕ q) b ≡ deinterleave p b ⊕ deinterleave q b
 unfolding deinterleave
@@ -57,10 +60,15 @@ burst-two mask h b =
     77
 
 -- ---- two places of a block
-turned-not-bad : (n : ℕ) (c : List ℕ) → turned n c ≢ bad
-unfolding turned
+turned-not-bad : (n : ℕ) (c : List ℕ) → said (turned n c) ≢ bad
+unfolding turned said
 turned-not-bad zero c e = let never : _≡_ {A = ℕ} 0 1 = cc in omega arith
 turned-not-bad (suc n) c e = let never : _≡_ {A = ℕ} 0 1 = cc in omega arith
+
+handed-turned : (w : List ℕ) (n : ℕ) (c : List ℕ) → length w ≡ 63 → length c ≡ 63 → length (handed w (turned n c)) ≡ 63
+unfolding handed turned
+handed-turned w zero c hw hc = hw
+handed-turned w (suc n) c hw hc = hc
 
 sent-word : (w : List ℕ) → CodeWord w → w ≡ sent (take 44 w)
 unfolding encode
@@ -70,9 +78,12 @@ module _ (x m : List ℕ) (size : length x ≡ 77) (places : length m ≡ 77) (b
   sound : List ℕ
   sound = take 44 x
 
-  received : take 63 (x ⊕ m) ≡ sent sound ⊕ take 63 m
-  unfolding sound
-  received =
+  received : List ℕ
+  received = x ⊕ m
+
+  protected-is : take 63 received ≡ sent sound ⊕ take 63 m
+  unfolding sound received
+  protected-is =
       take-⊕ 63 x m
       ∙ ap (λ (l : List ℕ). l ⊕ take 63 m) (sent-word (take 63 x) word ∙ ap sent (take-take 44 63 x (omega arith)))
 
@@ -90,15 +101,49 @@ module _ (x m : List ℕ) (size : length x ≡ 77) (places : length m ≡ 77) (b
   mask-size : length (take 63 m) ≡ 63
   mask-size = length-take-le 63 m (omega arith)
 
-  pub survives : Survives x (x ⊕ m)
+  are : areBits received ≡ true
+  unfolding received
+  are = below-bits received (below-⊕ x m)
+
+  read-as : reading 2 (take 63 received) ≡ turned (ones (take 63 m)) (sent sound)
+  read-as = ap (reading 2) protected-is ∙ third .number sound (take 63 m) sound-bits sound-size mask-size few
+
+  handed-on : handedOn received ≡ handed (take 63 received) (reading 2 (take 63 received)) ++ drop 63 received
+  unfolding handedOn
+  handed-on = rw are
+
+  handed-size : length (handed (take 63 received) (reading 2 (take 63 received))) ≡ 63
+  unfolding received
+  handed-size =
+      ap (λ (r : Reading). length (handed (take 63 received) r)) read-as
+      ∙ handed-turned (take 63 received) (ones (take 63 m)) (sent sound)
+      (length-take-le 63 received (omega (arith, length-⊕ x m (size ∙ sym places))))
+      (code-length (sent sound) (encode-word 44 blockGenerator sound sound-bits sound-size))
+
+  said-is : saidOf received ≡ accepted (said (turned (ones (take 63 m)) (sent sound)) ∷ [])
+  unfolding saidOf
+  said-is = rw (are, read-as)
+
+  not-bad : saidOf received ≢ accepted (bad ∷ [])
+  not-bad e =
+      turned-not-bad (ones (take 63 m)) (sent sound) (ap (λ (l : List Said). getD l 0 bad) (accepted-same (sym said-is ∙ e)))
+
+  back : take 44 (handedOn received) ≡ take 44 x
   unfolding sound
+  back =
+      ap (take 44) handed-on
+      ∙ take-append-le 44 (handed (take 63 received) (reading 2 (take 63 received))) (drop 63 received) (omega (arith, handed-size))
+      ∙ ap (λ (w : List ℕ). take 44 (handed w (reading 2 w))) protected-is
+      ∙ third .back sound (take 63 m) sound-bits sound-size mask-size few
+
+  pub survives : Survives x (x ⊕ m)
+  unfolding received
   survives =
       record {
         near = rw (distance-changed x m (size ∙ sym places)) two;
-        not-bad = λ e.
-            turned-not-bad (ones (take 63 m)) (sent sound)
-            (sym (ordinary .number sound (take 63 m) sound-bits sound-size mask-size few) ∙ ap (reading 2) (sym received) ∙ e);
-        back = rw received (ordinary .back sound (take 63 m) sound-bits sound-size mask-size few);
+        not-bad = not-bad;
+        back = back;
+        others = ap (drop 63) handed-on ∙ drop-at (handed (take 63 received) (reading 2 (take 63 received))) (drop 63 received) 63 handed-size;
       }
 
 -- ---- a written frame, damaged
@@ -107,9 +152,9 @@ module _ (letter : Letter) (s : ℕ) (blocks : List (List ℕ)) (out frame : Lis
   bits : List ℕ
   bits = frameBits letter s blocks
 
-  below-bits : Below 2 bits
+  bits-small : Below 2 bits
   unfolding bits
-  below-bits = let good = written-is letter s blocks out frame written in below-frame letter s blocks sized (good .0) (good .1)
+  bits-small = let good = written-is letter s blocks out frame written in below-frame letter s blocks sized (good .0) (good .1)
 
   same-size : length bits ≡ length mask
   unfolding bits
@@ -140,7 +185,7 @@ module _ (letter : Letter) (s : ℕ) (blocks : List (List ℕ)) (out frame : Lis
 
   -- a bit that is not turned
   untouched : (k : ℕ) → getD mask k 0 % 2 ≡ 0 → getD (bits ⊕ mask) k 0 ≡ getD bits k 0
-  untouched k h = let bit = bit-below bits k below-bits in getD-⊕ bits mask k same-size ∙ omega arith
+  untouched k h = let bit = bit-below bits k bits-small in getD-⊕ bits mask k same-size ∙ omega arith
 
   module _ (burst : Burst mask) where
     pub damaged-reads : readFrame letter (damaged frame mask) ≡ found (serviceIn letter s) (damagedBlocks blocks mask)

@@ -7,10 +7,10 @@ use mathlib.Core.Path.{_≡_, refl, ap, _∙_}
 use mathlib.Core.List.{List, [], _∷_, _++_}
 use Prim.Native.Nat.{ℕ, _+_, _-_, _<_, _≤_}
 use native.Mathlib.Omega.{arith}
-use lib.ListN.{length, getD, length-append, List·getD-append}
+use lib.ListN.{length, getD, length-append}
 use Rattle.bits.specs.Digits.{Below}
 use Rattle.bits.proofs.Digits.{below-append}
-use Rattle.frame.proofs.Rows.{getD-behind}
+use Rattle.bits.proofs.Table.{getD-front, getD-back}
 
 abbrev pub parts : List ℕ → ℕ → List ℕ → List ℕ → List ℕ
 parts sync s front back = sync ++ (s ∷ (front ++ back))
@@ -25,23 +25,23 @@ module _ (sync : List ℕ) (s : ℕ) (front back : List ℕ) (head : length sync
 
   -- past the sync word, k counts from 1 at the first pair
   past-sync : (k : ℕ) → 11 ≤ k → getD (parts sync s front back) k 0 ≡ getD (s ∷ (front ++ back)) (k - 11) 0
-  past-sync k h = getD-behind sync (s ∷ (front ++ back)) 0 11 k head h
+  past-sync k h = getD-back sync (s ∷ (front ++ back)) 11 k 0 head h
 
   past-service : (k : ℕ) → 12 ≤ k → getD (parts sync s front back) k 0 ≡ getD (front ++ back) (k - 12) 0
   past-service k h =
       let less : k - 11 - 1 ≡ k - 12 = omega arith in
-      past-sync k (omega arith) ∙ getD-behind (s ∷ []) (front ++ back) 0 1 (k - 11) refl (omega arith) ∙ ap (λ (i : ℕ). getD (front ++ back) i 0) less
+      past-sync k (omega arith) ∙ getD-back (s ∷ []) (front ++ back) 1 (k - 11) 0 refl (omega arith) ∙ ap (λ (i : ℕ). getD (front ++ back) i 0) less
 
   pub at-sync : (k : ℕ) → k < 11 → getD (parts sync s front back) k 0 ≡ getD sync k 0
-  at-sync k h = List·getD-append sync (s ∷ (front ++ back)) 0 k (omega arith)
+  at-sync k h = getD-front sync (s ∷ (front ++ back)) 11 k 0 head h
 
   pub at-service : (k : ℕ) → k ≡ 11 → getD (parts sync s front back) k 0 ≡ s
   at-service k e = let none : k - 11 ≡ 0 = omega arith in past-sync k (omega arith) ∙ ap (λ (i : ℕ). getD (s ∷ (front ++ back)) i 0) none
 
   pub at-front : (k : ℕ) → 12 ≤ k → k < 166 → getD (parts sync s front back) k 0 ≡ getD front (k - 12) 0
-  at-front k h l = past-service k h ∙ List·getD-append front back 0 (k - 12) (omega arith)
+  at-front k h l = past-service k h ∙ getD-front front back 154 (k - 12) 0 pair (omega arith)
 
   pub at-back : (k : ℕ) → 166 ≤ k → getD (parts sync s front back) k 0 ≡ getD back (k - 166) 0
   at-back k h =
       let less : k - 12 - 154 ≡ k - 166 = omega arith in
-      past-service k (omega arith) ∙ getD-behind front back 0 154 (k - 12) pair (omega arith) ∙ ap (λ (i : ℕ). getD back i 0) less
+      past-service k (omega arith) ∙ getD-back front back 154 (k - 12) 0 pair (omega arith) ∙ ap (λ (i : ℕ). getD back i 0) less

@@ -1,22 +1,26 @@
 -- The place of every bit of a block.
---     printed                the places as the document prints them: of bit j, from 1 on, of blocks 1, 2, 3 and 4
---     place-inside           a bit of a block stands in bits 13 to 320
---     place-belongs          each of bits 13 to 320 belongs to a bit of a block,
---     place-once             and to one only
---     Sized blocks           four blocks of 77 bits
---     length-frame           a frame has 320 bits
---     frame-sync, frame-service    what stands in bits 1 to 11, and in bit 12
---     placed                 THE LAW: bit j of block b of a frame stands at `placeOf b j`
---     blocks-gathered        so the blocks gathered from a frame's bits are its blocks
+--     printed                               the places as the document prints them: of bit j, from 1 on, of blocks 1, 2, 3 and 4
+--     place-inside                          a bit of a block stands in bits 13 to 320
+--     place-belongs                         each of bits 13 to 320 belongs to a bit of a block,
+--     place-once                            and to one only
+--     length-gathered, gathered-at, below-gathered    a block gathered from its places: 77 bits, and which
+--     Sized blocks                          four blocks of 77 bits
+--     length-frame                          a frame has 320 bits
+--     frame-sync, frame-service             what stands in bits 1 to 11, and in bit 12
+--     placed                                THE LAW: bit j of block b of a frame stands at `placeOf b j`
+--     blocks-gathered                       so the blocks gathered from a frame's bits are its blocks
 -- Assumes nothing.
 use mathlib.Core.Path.{_≡_, refl, sym, ap, _∙_}
 use mathlib.Core.List.{List}
 use Prim.Native.Nat.{ℕ, zero, suc, _+_, _-_, _*_, _/_, _%_, _<_, _≤_}
 use native.Mathlib.Omega.{arith}
 use lib.ListN.{length, getD}
-use Rattle.bits.proofs.Table.{tab-ext, tab-getD}
+use Rattle.bits.specs.Digits.{Below}
+use Rattle.bits.proofs.Table.{length-tab, getD-tab, tab-ext, tab-getD}
+use Rattle.bits.proofs.Digits.{below-tab}
 use Rattle.frame.specs.Frame.{syncWord, serviceIn, interleave, block, frameBits, placeOf, deinterleave, Belongs, blockAt, bitAtPlace}
 use Rattle.frame.specs.declared.Letter.{Letter}
+use Rattle.frame.proofs.Rows.{bit-below}
 use Rattle.frame.proofs.Interleave.{length-interleave, interleave-even, interleave-odd}
 use Rattle.frame.proofs.Parts.{length-parts, at-sync, at-service, at-front, at-back}
 use Rattle.frame.proofs.Sync.{length-sync}
@@ -41,6 +45,20 @@ place-once k b j h =
     let in-it : (k - 12) % 154 ≡ b % 2 + 2 * j = in-pair (b / 2) (b % 2 + 2 * j) (k - 12) (omega arith) (omega arith) .1 in
     let odd : k % 2 ≡ b % 2 = omega arith in
     (rw (of-pair, odd) (omega arith), rw in-it (omega arith))
+
+-- ---- a block gathered from its places
+module _ (bits : List ℕ) (b : ℕ) where
+  pub length-gathered : length (deinterleave bits b) ≡ 77
+  unfolding deinterleave
+  length-gathered = length-tab 77 (λ j. getD bits (placeOf b j) 0)
+
+  pub gathered-at : (j : ℕ) → j < 77 → getD (deinterleave bits b) j 0 ≡ getD bits (placeOf b j) 0
+  unfolding deinterleave
+  gathered-at j h = getD-tab 77 (λ j. getD bits (placeOf b j) 0) j 0 h
+
+  pub below-gathered : Below 2 bits → Below 2 (deinterleave bits b)
+  unfolding deinterleave
+  below-gathered h = below-tab 2 77 (λ j. getD bits (placeOf b j) 0) (λ j l. bit-below bits (placeOf b j) h)
 
 -- ---- what stands there
 abbrev pub Sized : List (List ℕ) → Type 0

@@ -1,13 +1,11 @@
 -- Laws of rows of bits.
---     bit-below             an entry of a row of bits is 0 or 1, past its end too
+--     bit-below                an entry of a row of bits is 0 or 1, past its end too
 --     bitAt-below, bitsOf-at, below-bitsOf
---                           a bit of bytes is 0 or 1; their bits one by one, past the end too
---     getD-behind           an entry of the second of two rows
---     ⊕-tab, getD-⊕, take-⊕, drop-⊕
---                           a sum of two tables; a sum entry by entry; its first entries, and the others
---     ones-more             ones of a table with one entry more
---     ones-take             the first entries have no more ones than all
---     ones-window           entries that are even outside w places in a row: at most w ones
+--                              a bit of bytes is 0 or 1; their bits one by one, past the end too
+--     ⊕-tab, getD-⊕, take-⊕    a sum of two tables; a sum entry by entry; its first entries
+--     ones-more                ones of a table with one entry more
+--     ones-take                the first entries have no more ones than all
+--     ones-window              entries that are even outside w places in a row: at most w ones
 -- Assumes nothing.
 use mathlib.Core.Path.{_≡_, refl, sym, ap, _∙_}
 use mathlib.Core.List.{List, [], _∷_, _++_}
@@ -16,8 +14,7 @@ use native.Mathlib.Nat.{suc-inj, suc-ne-zero, mod-lt, zero-div, zero-mod}
 use native.Mathlib.Decide.{decLe}
 use native.Mathlib.Numerals.{add-one}
 use native.Mathlib.Omega.{arith}
-use lib.ListN.{length, getD, take, drop, List·getD-eq-default}
-use lib.Seq.{getD-append-add}
+use lib.ListN.{length, getD, take, List·getD-eq-default}
 use Rattle.bits.specs.Table.{tabulate}
 use Rattle.bits.specs.Digits.{Below}
 use Rattle.bits.specs.Bits.{bitAt, bitsOf, ones}
@@ -55,13 +52,6 @@ pub below-bitsOf : (bytes : List ℕ) → Below 2 (bitsOf bytes)
 unfolding bitsOf
 below-bitsOf bytes = below-tab 2 (8 * length bytes) (bitAt bytes) (λ k h. bitAt-below bytes k)
 
--- ---- entries
-module _ {A : Type 0} where
-  pub getD-behind : (p q : List A) (d : A) (n k : ℕ) → length p ≡ n → n ≤ k → getD (p ++ q) k d ≡ getD q (k - n) d
-  getD-behind p q d n k e h =
-      let whole : k ≡ length p + (k - n) = omega arith in
-      ap (λ (i : ℕ). getD (p ++ q) i d) whole ∙ getD-append-add p q (k - n) d
-
 -- ---- sums
 pub ⊕-tab : (n : ℕ) (f g : ℕ → ℕ) → tabulate n f ⊕ tabulate n g ≡ tabulate n (λ k. (f k + g k) % 2)
 unfolding tabulate _⊕_
@@ -84,14 +74,6 @@ take-⊕ zero p q = refl
 take-⊕ (suc n) [] q = refl
 take-⊕ (suc n) (x ∷ p) [] = refl
 take-⊕ (suc n) (x ∷ p) (y ∷ q) = cons refl (take-⊕ n p q)
-
-pub drop-⊕ : (n : ℕ) (p q : List ℕ) → length p ≡ length q → drop n (p ⊕ q) ≡ drop n p ⊕ drop n q
-unfolding _⊕_
-drop-⊕ zero p q h = refl
-drop-⊕ (suc n) [] [] h = refl
-drop-⊕ (suc n) [] (y ∷ q) h = absurd (suc-ne-zero _ (sym h))
-drop-⊕ (suc n) (x ∷ p) [] h = absurd (suc-ne-zero _ h)
-drop-⊕ (suc n) (x ∷ p) (y ∷ q) h = drop-⊕ n p q (suc-inj h)
 
 -- ---- ones
 pub ones-more : (n : ℕ) (f : ℕ → ℕ) → ones (tabulate (n + 1) f) ≡ ones (tabulate n f) + f n % 2

@@ -3,24 +3,22 @@
 --     refusal, success                            what the promise asks where the number is not 0, and where it is
 --     number-zero                                 number 0 says that there are 40 bytes, and that all values are bits
 --     written-is                                  what was written, where the number is 0
---     bits-below, below-bits                      a list whose entries pass the test is a row of bits, and the other way round
 -- Assumes nothing.
 use mathlib.Core.Path.{_≡_, refl, sym, _∙_}
 use mathlib.Core.Bool.{Bool, true, false, cond}
-use mathlib.Core.List.{List, [], _∷_}
+use mathlib.Core.List.{List}
 use Prim.Native.Nat.{ℕ, _<_, _≤_}
 use native.Mathlib.Nat.{suc-ne-zero}
 use native.Mathlib.Omega.{arith}
-use borrow.Author.Tests.{eq-eqb, ne-eqb, le-leb, eqb-true, leb-true}
+use borrow.Author.Tests.{eq-eqb, ne-eqb, eqb-true, leb-true}
 use lib.Dec.{eqb, leb}
 use lib.ListN.{length}
 use Rattle.bits.specs.Table.{every}
-use Rattle.bits.specs.Digits.{Below}
+use Rattle.bits.specs.Bits.{areBits}
 use Rattle.bits.proofs.Tests.{both-true}
 use Rattle.frame.specs.Frame.{frameBytes}
-use Rattle.frame.specs.Write.{isBit, goodValues, writeNumber, Written}
+use Rattle.frame.specs.Write.{goodValues, writeNumber, Written}
 use Rattle.frame.specs.declared.Letter.{Letter}
-use Rattle.frame.proofs.Every.{every-cons}
 
 module _ (size s : ℕ) (blocks : List (List ℕ)) where
   pub number-size : (size ≡ 40 → ⊥) → 1 ≡ writeNumber size s blocks
@@ -48,31 +46,17 @@ zero-ways true true e = (refl, refl)
 zero-ways true false e = absurd (suc-ne-zero 1 (sym e))
 zero-ways false b e = absurd (suc-ne-zero 0 (sym e))
 
-pub number-zero : (size s : ℕ) (blocks : List (List ℕ)) → 0 ≡ writeNumber size s blocks → (size ≡ 40) × (s < 2) × (every (every isBit) blocks ≡ true)
-unfolding writeNumber goodValues isBit
+pub number-zero : (size s : ℕ) (blocks : List (List ℕ)) → 0 ≡ writeNumber size s blocks → (size ≡ 40) × (s < 2) × (every areBits blocks ≡ true)
+unfolding writeNumber goodValues
 number-zero size s blocks e =
     let ways = zero-ways (eqb size 40) (goodValues s blocks) e in
-    let good = both-true (leb s 1) (every (every isBit) blocks) (ways .1) in
+    let good = both-true (leb s 1) (every areBits blocks) (ways .1) in
     let small : s ≤ 1 = leb-true s 1 (good .0) in
     (eqb-true size 40 (ways .0), omega arith, good .1)
 
 -- a frame that was written
 pub written-is : (letter : Letter) (s : ℕ) (blocks : List (List ℕ)) (out frame : List ℕ) → Written letter s blocks out 0 frame
-    → (s < 2) × (every (every isBit) blocks ≡ true) × (frame ≡ frameBytes letter s blocks)
+    → (s < 2) × (every areBits blocks ≡ true) × (frame ≡ frameBytes letter s blocks)
 written-is letter s blocks out frame w =
     let good = number-zero (length out) s blocks (w .number) in
     (good .1, good .2, w .buffer ∙ rw (← w .number))
-
--- ---- rows of bits
-pub bits-below : (l : List ℕ) → every isBit l ≡ true → Below 2 l
-unfolding every isBit Below
-bits-below [] e = tt
-bits-below (x ∷ l) e =
-    let both = both-true (leb x 1) (every isBit l) e in
-    let small : x ≤ 1 = leb-true x 1 (both .0) in
-    (omega arith, bits-below l (both .1))
-
-pub below-bits : (l : List ℕ) → Below 2 l → every isBit l ≡ true
-unfolding every isBit Below
-below-bits [] h = refl
-below-bits (x ∷ l) h = let small : x < 2 = h .0 in every-cons isBit x l (le-leb x 1 (omega arith)) (below-bits l (h .1))

@@ -2,18 +2,18 @@
 --     damaged bytes mask         bytes in which the bits are turned at which a mask has its ones
 --     damagedBlocks blocks mask  four blocks, each with its part of a frame's mask turned
 --     Burst mask                 a mask of 320 bits whose ones lie in a run of at most four consecutive places among bits 13 to 320
---     Survives block received    a block and what was received of it: at most two of the 77 bits differ, the 63 protected ones are not read as
---                                bad, and the 44 sound bits among them come back as sent
+--     Survives sent received     a block and what is received of it: at most two of the 77 bits differ, it is not read as bad, the 44 protected
+--                                sound bits come back as sent, and the 14 unprotected bits as received
 use mathlib.Core.Path.{_≡_}
 use mathlib.Core.Logic.{_≢_}
 use mathlib.Core.List.{List, [], _∷_}
 use Prim.Native.Nat.{ℕ, _+_, _%_, _≤_, _<_}
-use lib.ListN.{length, getD, take}
+use lib.ListN.{length, getD, take, drop}
 use Rattle.bits.specs.Bits.{bitsOf, bytesOf}
+use Rattle.bits.specs.Answer.{accepted}
 use Rattle.remainder.specs.Polynomial.{_⊕_}
 use Rattle.code.specs.Words.{distance}
-use Rattle.reading.specs.Reading.{bad, handed}
-use Rattle.reading.specs.Search.{reading}
+use Rattle.block.specs.Read.{bad, saidOf, handedOn}
 use Rattle.frame.specs.Frame.{block, deinterleave}
 
 unfoldable pub damaged : List ℕ → List ℕ → List ℕ
@@ -34,7 +34,8 @@ pub record Burst (mask : List ℕ) : Type 0 where
   pub before : (k : ℕ) → k < at → getD mask k 0 % 2 ≡ 0
   pub behind : (k : ℕ) → at + run ≤ k → getD mask k 0 % 2 ≡ 0
 
-pub record Survives (block received : List ℕ) : Type 0 where
-  pub near : distance block received ≤ 2
-  pub not-bad : reading 2 (take 63 received) ≢ bad
-  pub back : take 44 (handed (take 63 received) (reading 2 (take 63 received))) ≡ take 44 block
+pub record Survives (sent received : List ℕ) : Type 0 where
+  pub near : distance sent received ≤ 2
+  pub not-bad : saidOf received ≢ accepted (bad ∷ [])
+  pub back : take 44 (handedOn received) ≡ take 44 sent
+  pub others : drop 63 (handedOn received) ≡ drop 63 received

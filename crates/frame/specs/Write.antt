@@ -1,6 +1,5 @@
 -- What writing a main frame answers and leaves (document 01, "Main frame" and "Numbers given").
---     isBit x                      whether a number is 0 or 1
---     goodValues s blocks          whether a service bit and all entries of blocks are
+--     goodValues s blocks          whether a service bit and all entries of blocks are 0 or 1
 --     writeNumber size s blocks    number 1 for a buffer of another size than 40 bytes, then 2 for a service bit (in B too) or an entry
 --                                  of a block that is neither 0 nor 1
 --     Written letter s blocks out r out'
@@ -12,14 +11,12 @@ use Prim.Native.Nat.{ℕ}
 use lib.Dec.{eqb, leb}
 use lib.ListN.{length}
 use Rattle.bits.specs.Table.{every}
+use Rattle.bits.specs.Bits.{areBits}
 use Rattle.frame.specs.Frame.{frameBytes}
 use Rattle.frame.specs.declared.Letter.{Letter}
 
-unfoldable pub isBit : ℕ → Bool
-isBit x = leb x 1
-
 unfoldable pub goodValues : ℕ → List (List ℕ) → Bool
-goodValues s blocks = isBit s && every (every isBit) blocks
+goodValues s blocks = leb s 1 && every areBits blocks
 
 unfoldable pub writeNumber : ℕ → ℕ → List (List ℕ) → ℕ
 writeNumber size s blocks = cond (eqb size 40) (cond (goodValues s blocks) 0 2) 1

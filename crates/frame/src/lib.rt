@@ -2,11 +2,10 @@
 ghost use mathlib.Core.Path.{_≡_};
 ghost use mathlib.Core.List.{[], _∷_, _++_};
 ghost use lib.ListN.{length};
-ghost use Rattle.bits.specs.Table.{every};
 ghost use Rattle.bits.specs.Bits.{bytesOf};
 ghost use Rattle.frame.specs.Frame.{syncWord, serviceIn, interleave};
 ghost use Rattle.frame.specs.Read.{wrongSync, serviceRead, blockOf, nothing, readFrame};
-ghost use Rattle.frame.specs.Write.{isBit, goodValues, writeNumber, Written};
+ghost use Rattle.frame.specs.Write.{goodValues, writeNumber, Written};
 
 pub enum Letter {
     A,
@@ -119,20 +118,6 @@ pub fn read(letter: Letter, bytes: &[u8]) -> FrameRead
     }
 }
 
-// Whether every entry is 0 or 1.
-fn are_bits(entries: &[u8]) -> bool
-    ensures { λ r. ⌜ r ≡ every isBit (now (entries .entry)) ⌝ }
-{
-    let mut i: usize = 0;
-    while i < entries.len() {
-        if 1 < entries[i] {
-            return false;
-        }
-        i += 1;
-    }
-    true
-}
-
 fn interleaved(lower: [u8; 77], higher: [u8; 77]) -> [u8; 154]
     ensures { λ r. ⌜ r ≡ interleave lower higher ⌝ }
 {
@@ -193,16 +178,16 @@ fn are_values(
     if 1 < service {
         return false;
     }
-    if !are_bits(&first) {
+    if !bits::are_bits(&first) {
         return false;
     }
-    if !are_bits(&second) {
+    if !bits::are_bits(&second) {
         return false;
     }
-    if !are_bits(&third) {
+    if !bits::are_bits(&third) {
         return false;
     }
-    are_bits(&fourth)
+    bits::are_bits(&fourth)
 }
 
 // The number that writing into a buffer of some size gives.

@@ -29,7 +29,7 @@ use Rattle.service.specs.Run.{Step, stepped, after}
 use Rattle.service.specs.Broadcast.{syncBehind, stepOf, broadcast, channelOf, Separated, labelsOf}
 use Rattle.service.specs.declared.Service.{Service}
 use Rattle.service.specs.declared.sync.Kind.the-variants.{First, Second}
-use Rattle.service.proofs.Ranges.{Below-allBelow}
+use Rattle.bits.proofs.Bits.{below-all}
 use Rattle.service.proofs.Orders.{before-kept, at-comes}
 use Rattle.service.proofs.Machine.{InRange, open-true, open-false, served-first, served-second, eighth-ends}
 use Rattle.service.proofs.Progress.{NoLabels, stage-waits, soon-none}
@@ -120,7 +120,7 @@ module _ (sixes : ℕ → List ℕ) (k : ℕ) (t : Service) (a : Along sixes k t
   unfolding takeSix groupAfter
   separated none e =
       let f : ℕ → ℕ = channelByte (t .position) (t .group) (sixes k) in
-      Below-allBelow 1 (tabulate 32 f)
+      below-all 1 (tabulate 32 f)
       (below-tab 1 32 f
       (λ i l.
       let first : k / 8 ≡ 0 = omega arith in

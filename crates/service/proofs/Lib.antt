@@ -1,5 +1,4 @@
 pub mod Tests
-pub mod Ranges
 pub mod Syncs
 pub mod Unique
 pub mod Machine

@@ -20,7 +20,7 @@ use native.Mathlib.Omega.{arith}
 use lib.Dec.{eqb, leb, ltb}
 use borrow.Author.Tests.{leb-true, le-leb, lt-ltb, ne-eqb}
 use Rattle.bits.specs.Digits.{Below}
-use Rattle.service.specs.Range.{allBelow}
+use Rattle.bits.specs.Bits.{allBelow}
 use Rattle.service.specs.Places.{zeros}
 use Rattle.service.specs.Six.{groupAfter, stageAfter, separates, takeSix, isReady}
 use Rattle.service.specs.Sync.{sync1, sync2, agree, kindOf, isOpen, dropsWith, takeSync}
@@ -28,7 +28,7 @@ use Rattle.service.specs.Service.{inRange, accepts, stepBy, served, sear
 use Rattle.service.specs.declared.Service.{Service}
 use Rattle.service.specs.declared.sync.Kind.the-variants.{First, Second, Neither}
 use Rattle.service.proofs.Tests.{both, both-left, both-right}
-use Rattle.service.proofs.Ranges.{Below-allBelow}
+use Rattle.bits.proofs.Bits.{below-all}
 use Rattle.service.proofs.Syncs.{disagree}
 
 pub record InRange (s : Service) : Type 0 where
@@ -79,7 +79,7 @@ none-left false = refl
 module _ (s : Service) (six : List ℕ) (h : InRange s) where
   pub served-is : (sync : List ℕ) → Below 2 sync → served s six sync ≡ stepBy s (takeSix s six) (kindOf sync)
   unfolding served accepts
-  served-is sync b = rw (in-range-true s h, Below-allBelow 2 sync b)
+  served-is sync b = rw (in-range-true s h, below-all 2 sync b)
 
   pub position-kept : (sync : List ℕ) → Below 2 sync → served s six sync .position ≡ s .position
   position-kept sync b = rw (served-is sync b)

@@ -4,7 +4,6 @@ use mathlib.Core.Bool.{Bool}
 use mathlib.Core.List.{List}
 use Prim.Native.Nat.{ℕ}
 use Rattle.bits.proofs.Unique.{same}
-use Rattle.service.specs.Range.{allBelow}
 use Rattle.service.specs.Service.{searchingService, inRange, served}
 use Rattle.service.specs.declared.Service.{Service}
 use Rattle.service.specs.declared.Served.{Served}
@@ -14,9 +13,6 @@ searching-unique r r' = same
 
 pub in-range-unique : (r r' : Bool) (s : Service) → r ≡ inRange s → r' ≡ inRange s → r ≡ r'
 in-range-unique r r' s = same
-
-pub all-below-unique : (r r' : Bool) (b : ℕ) (l : List ℕ) → r ≡ allBelow b l → r' ≡ allBelow b l → r ≡ r'
-all-below-unique r r' b l = same
 
 pub serve-unique : (r r' : Served) (s : Service) (six sync : List ℕ) → r ≡ served s six sync → r' ≡ served s six sync → r ≡ r'
 serve-unique r r' s six sync = same

@@ -1,4 +1,3 @@
-pub mod Range
 pub mod Places
 pub mod Six
 pub mod Sync

@@ -9,7 +9,7 @@ use Prim.Native.Nat.{ℕ}
 use mathlib.Core.Bool.{Bool, false, cond}
 use mathlib.Core.List.{List}
 use lib.Dec.{leb}
-use Rattle.service.specs.Range.{allBelow}
+use Rattle.bits.specs.Bits.{allBelow}
 use Rattle.service.specs.Places.{zeros}
 use Rattle.service.specs.Six.{takeSix, isReady}
 use Rattle.service.specs.Sync.{kindOf, numberOf, takeSync}

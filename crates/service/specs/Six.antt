@@ -16,7 +16,7 @@ use mathlib.Core.List.{List}
 use lib.Dec.{eqb, ltb}
 use lib.ListN.{getD}
 use Rattle.bits.specs.Table.{tabulate}
-use Rattle.service.specs.Range.{allBelow}
+use Rattle.bits.specs.Bits.{allBelow}
 use Rattle.service.specs.Places.{zeros, inOrder}
 use Rattle.service.specs.declared.Service.{Service}
 

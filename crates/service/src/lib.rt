@@ -4,7 +4,6 @@ ghost use mathlib.Core.Path.{_≡_};
 ghost use Rattle.service.specs.Service.{searchingService, inRange, accepts, refusedService, served};
 
 mod places;
-pub mod range;
 mod six;
 mod sync;
 
@@ -59,7 +58,7 @@ fn accepted(service: Service, sync: [u8; 16]) -> bool
     ensures { λ r. ⌜ r ≡ accepts service sync ⌝ }
 {
     if in_range(service) {
-        return range::all_below(&sync, 2);
+        return bits::all_below(&sync, 2);
     }
     false
 }

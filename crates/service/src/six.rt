@@ -5,7 +5,6 @@ ghost use Rattle.bits.specs.Table.{tabulate};
 ghost use Rattle.service.specs.Six.{channelByte, groupAfter, labelByte, stageAfter, isReady, takeSix};
 use crate::Service;
 use crate::places;
-use crate::range;
 
 fn channel_byte(position: u8, group: &[u8; 32], six: &[u8; 6], i: usize) -> u8
     requires { ⌜ i < 32 ⌝ }
@@ -50,7 +49,7 @@ fn stage_after(position: u8, stage: u8, group: [u8; 32]) -> u8
         return stage;
     }
     if stage == 0 {
-        if range::all_below(&group, 1) {
+        if bits::all_below(&group, 1) {
             return 1;
         }
         return 0;

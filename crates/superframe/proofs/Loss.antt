@@ -10,7 +10,8 @@ use mathlib.Core.Path.{_≡_, refl}
 use mathlib.Core.Bool.{true}
 use mathlib.Core.List.{List}
 use Prim.Native.Nat.{ℕ}
-use Rattle.service.specs.Range.{allBelow}
+use Rattle.bits.specs.Table.{every}
+use Rattle.bits.specs.Bits.{allBelow}
 use Rattle.service.specs.Service.{searchingService, inRange}
 use Rattle.service.specs.declared.Service.{Service}
 use Rattle.service.proofs.Tests.{both, both-left, both-right}
@@ -30,7 +31,7 @@ unfolding stateInRange
 joined-in-range f v p q = both (factorsInRange f) (inRange v) p q
 
 missing-in-range : allBelow 9 missing ≡ true
-unfolding allBelow missing
+unfolding allBelow every missing
 missing-in-range = refl
 
 searching-in-range : inRange searchingService ≡ true

@@ -16,7 +16,7 @@ use Prim.Native.Nat.{ℕ}
 use mathlib.Core.Bool.{Bool, false, cond}
 use mathlib.Core.List.{List}
 use lib.ListN.{replicate}
-use Rattle.service.specs.Range.{allBelow}
+use Rattle.bits.specs.Bits.{allBelow}
 use Rattle.service.specs.Service.{searchingService, inRange, refusedService, served}
 use Rattle.service.specs.declared.Service.{Service}
 use Rattle.service.specs.declared.Served.{Served}

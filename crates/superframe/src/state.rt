@@ -2,7 +2,6 @@
 ghost use mathlib.Core.Path.{_≡_};
 ghost use Rattle.superframe.specs.State.{joinedState, freshState, serviceOf, factorsInRange, stateInRange, lostWith, servicedWith};
 use service::Service;
-use service::range;
 
 pub struct State {
     // the factors of the 32 channels for the next superframe, 0 to 7; 8: missing
@@ -72,8 +71,8 @@ pub(crate) fn joined(next: [u8; 32], after: [u8; 32], service: Service) -> State
 fn factors_in_range(next: [u8; 32], after: [u8; 32]) -> bool
     ensures { λ r. ⌜ r ≡ factorsInRange (record { next = next; after = after }) ⌝ }
 {
-    if range::all_below(&next, 9) {
-        return range::all_below(&after, 9);
+    if bits::all_below(&next, 9) {
+        return bits::all_below(&after, 9);
     }
     false
 }

@@ -1,8 +1,8 @@
 -- `block::bits_of` meets its contract. Assumes nothing.
-use mathlib.Core.Path.{_≡_, refl, sym, ap, _∙_}
+use mathlib.Core.Path.{_≡_, refl, ap, _∙_}
 use mathlib.Core.Logic.{⊎-elim}
 use mathlib.Core.List.{List}
-use Prim.Native.Nat.{ℕ, _+_, _-_, _*_, _/_, _%_, _^_, _<_, _≤_}
+use Prim.Native.Nat.{ℕ, _+_, _-_, _/_, _%_, _^_, _≤_}
 use native.Mathlib.Omega.{arith}
 use lib.IntN.{ℤ, pos}
 use lib.ListN.{length, take, getD}
@@ -13,7 +13,7 @@ use Rattle.bits.proofs.Table.{toward, arrived}
 use Rattle.remainder.specs.Remainder.{checkBits}
 use Rattle.code.specs.Generators.{blockGenerator}
 use Rattle.sample.specs.Pattern.{codeBits}
-use Rattle.block.specs.Layout.{sound, blockOf}
+use Rattle.block.specs.Layout.{blockOf}
 use Rattle.block.proofs.Places.{length-block, at-sound, at-check, at-rest, at-extra}
 use borrow.Author.Needs.{needs}
 use Rattle.block.proofs.bits_of.Statement.{statement}

@@ -10,8 +10,8 @@ use lib.Seq.{take-all}
 use Rattle.bits.specs.Digits.{value, Below}
 use Rattle.bits.proofs.Digits.{value-take, below-getD}
 use Rattle.bits.proofs.Bits.{bits-below}
-use Rattle.block.specs.Layout.{fourteen, placeOf}
-use Rattle.block.proofs.Places.{length-fourteen, below-fourteen, fourteen-at}
+use Rattle.block.specs.Layout.{fourteen}
+use Rattle.block.proofs.Places.{length-fourteen, fourteen-at}
 use borrow.Author.Needs.{needs}
 use Rattle.block.proofs.pattern_at.Statement.{statement}
 use Rattle.block.proofs.pattern_at.Tie as tie

@@ -1,11 +1,11 @@
 -- `block::read` meets its contract. Assumes nothing.
-use mathlib.Core.Path.{_≡_, sym, ap, subst, _∙_}
+use mathlib.Core.Path.{_≡_, sym, subst, _∙_}
 use mathlib.Core.List.{List}
-use Prim.Native.Nat.{ℕ, _<_}
+use Prim.Native.Nat.{ℕ}
 use native.Mathlib.Omega.{arith}
 use borrow.Author.Tests.{not-true, not-false}
 use lib.ListN.{length}
-use Rattle.reading.specs.Wrong.{turn, Within}
+use Rattle.reading.specs.Wrong.{Within}
 use Rattle.reading.proofs.Answered.{answered-within}
 use Rattle.reading.specs.declared.Places.{Places}
 use Rattle.block.specs.Read.{IsRead}

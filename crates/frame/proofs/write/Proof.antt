@@ -48,7 +48,7 @@ returns-2 c =
     let a = tested .before .before .args in
     success (a .letter) (a .service) _ (a .out .now) (tested .write-number .result) (tested .write-number .ensures) _ (omega arith)
     (c .before .before .fill .ensures
-    ∙ ap bytesOf (bits .joined .ensures ∙ rw (sent .carried .ensures, pairs .before .interleaved .ensures, pairs .interleaved2 .ensures)))
+    ∙ ap bytesOf (bits .joined .ensures ∙ simp (sent .carried .ensures, pairs .before .interleaved .ensures, pairs .interleaved2 .ensures)))
 
 pub write-spec : {M : Type 1} → statement M
 write-spec =
