@@ -4,4 +4,6 @@ pub mod Tape
 pub mod Samples
 pub mod Carried
 pub mod Took
+pub mod Ahead
+pub mod Repaired
 pub mod Unique

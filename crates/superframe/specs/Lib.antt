@@ -5,3 +5,4 @@ pub mod Marks
 pub mod Sound
 pub mod Beside
 pub mod Take
+pub mod Calls
