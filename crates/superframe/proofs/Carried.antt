@@ -4,7 +4,7 @@
 --     left-there, right-there   the factors of a programme's two channels
 --     byte-there, six-there     a byte of the first 48 service bits; all six
 -- Assumes nothing.
-use mathlib.Core.Path.{_≡_, refl, sym, ap, _∙_}
+use mathlib.Core.Path.{_≡_, sym, ap, _∙_}
 use mathlib.Core.List.{List}
 use Prim.Native.Nat.{ℕ, _+_, _*_, _/_, _%_, _<_}
 use native.Mathlib.Omega.{arith}
@@ -19,7 +19,7 @@ use Rattle.frame.specs.Frame.{placeOf, deinterleave}
 use Rattle.frame.specs.Read.{blockOf}
 use Rattle.frame.proofs.Rows.{bitsOf-at}
 use Rattle.superframe.specs.Tape.{frameAt, blockIn}
-use Rattle.superframe.specs.Beside.{extraBit, extraOf, factorOr, sideOf, factorRead, sixOf}
+use Rattle.superframe.specs.Beside.{extraBit, extraOf, factorOr, factorRead, sixOf}
 use Rattle.superframe.proofs.Tape.{block-there}
 
 pub block-bit : (sf : List ℕ) (f p j : ℕ) → j < 77 → getD (blockIn sf f p) j 0 ≡ bitAt (frameAt sf (f + 64 * (p / 4))) (placeOf (p % 4) j)

@@ -4,18 +4,16 @@
 --     sent-heard            THE SAMPLE is the rule's for the code sent and the mark 0 or 1, where the factor is there
 --     sent-silent           else the sample is 0, and the mark 3
 -- Assumes nothing.
-use mathlib.Core.Path.{_≡_, refl, sym, ap, _∙_}
-use mathlib.Core.Bool.{true}
-use mathlib.Core.List.{List, [], _∷_, _++_}
+use mathlib.Core.Path.{_≡_, sym, ap, _∙_}
+use mathlib.Core.List.{List, _++_}
 use Prim.Native.Nat.{ℕ, zero, suc, _+_, _-_, _*_, _/_, _%_, _<_, _≤_}
 use native.Mathlib.Omega.{arith}
 use borrow.Author.Tests.{ltb-true, ltb-false, le-leb, lt-leb}
-use lib.Dec.{ltb, leb}
+use lib.Dec.{ltb}
 use lib.IntN.{ℤ, pos}
 use lib.ListN.{length, getD, take, drop, length-append, length-drop}
-use lib.Seq.{ext-getD, getD-take, getD-drop, take-at, drop-at, take-append-le}
-use Rattle.bits.specs.Bits.{areBits, ones}
-use Rattle.bits.specs.Answer.{accepted}
+use lib.Seq.{ext-getD, getD-take, getD-drop, drop-at}
+use Rattle.bits.specs.Bits.{ones}
 use Rattle.bits.proofs.Tests.{either-way}
 use Rattle.bits.proofs.Digits.{below-append}
 use Rattle.bits.proofs.Bits.{bits-below}
@@ -27,11 +25,11 @@ use Rattle.block.specs.Layout.{sound, rest, fourteen, placeOf, codeAt, codesAt,
 use Rattle.block.specs.Layout as L
 use Rattle.block.specs.Read.{saidWith, handedOn}
 use Rattle.block.specs.declared.BlockCodes.{BlockCodes}
-use Rattle.block.specs.Demand.{Sent, received}
+use Rattle.block.specs.Demand.{Sent}
 use Rattle.block.proofs.Places.{length-sound, length-rest, below-sound, below-rest, length-63, length-block, at-sound, length-fourteen, fourteen-at}
 use Rattle.block.proofs.Demand.{heard, third}
 use Rattle.block.proofs.Back.{written-clean, written-codes}
-use Rattle.superframe.specs.Tape.{blockIn, readingIn, markOf, blockMark}
+use Rattle.superframe.specs.Tape.{blockIn, markOf, blockMark}
 use Rattle.superframe.specs.Sound.{soundAt, markWith, codeIn, sampleAt, markAt}
 use Rattle.superframe.specs.Calls.{SentIn}
 use Rattle.superframe.proofs.Tape.{reading-there}

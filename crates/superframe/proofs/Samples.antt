@@ -6,9 +6,9 @@
 --     sample-there, mark-there      what block n stores in place j of its four is number 4 n + j of all
 --     part-back             the four places of a block, lent and come back
 -- Assumes nothing.
-use mathlib.Core.Path.{_≡_, refl, sym, ap, ap₂, _∙_}
-use mathlib.Core.Bool.{true, false, cond}
-use mathlib.Core.List.{List, [], _∷_, _++_}
+use mathlib.Core.Path.{_≡_, refl, sym}
+use mathlib.Core.Bool.{true, false}
+use mathlib.Core.List.{List, _++_}
 use mathlib.Core.Option.{Option, none, some}
 use Prim.Native.Nat.{ℕ, zero, suc, _+_, _-_, _*_, _/_, _%_, _<_, _≤_}
 use native.Mathlib.Omega.{arith}
@@ -29,7 +29,7 @@ use Rattle.remainder.specs.Remainder.{remainder}
 use Rattle.remainder.specs.Columns.{columns}
 use Rattle.remainder.proofs.Sum.{below-⊕}
 use Rattle.code.specs.Generators.{blockGenerator}
-use Rattle.reading.specs.Reading.{Reading, handed, turned}
+use Rattle.reading.specs.Reading.{handed, turned}
 use Rattle.reading.specs.Search.{reading, found, seek}
 use Rattle.sample.specs.Sample.{isCode, sampleOf, sampleAnswer, sampled}
 use Rattle.sample.specs.Pattern.{bitsCode}

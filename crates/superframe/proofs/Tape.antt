@@ -8,8 +8,8 @@
 --     many-yes, many-no, many-same     one place more that passes, or that does not; two tests that agree
 --     gathered-counts       the counts, from the marks as the code holds them
 -- Assumes nothing.
-use mathlib.Core.Path.{_≡_, refl, sym, ap, ap₂, _∙_}
-use mathlib.Core.Bool.{Bool, true, false, cond}
+use mathlib.Core.Path.{_≡_, refl, sym, ap, _∙_}
+use mathlib.Core.Bool.{Bool, true, false}
 use mathlib.Core.List.{List, [], _∷_}
 use Prim.Native.Nat.{ℕ, zero, suc, _+_, _-_, _*_, _/_, _%_, _<_, _≤_}
 use native.Mathlib.Numerals.{add-one}
@@ -17,7 +17,7 @@ use native.Mathlib.Omega.{arith}
 use borrow.Author.Tests.{le-leb, lt-leb, lt-ltb}
 use lib.Dec.{eqb, leb}
 use lib.ListN.{getD, take, drop}
-use Rattle.bits.specs.Table.{tabulate, every}
+use Rattle.bits.specs.Table.{tabulate}
 use Rattle.bits.specs.Bits.{areBits, bitsOf}
 use Rattle.bits.specs.Answer.{accepted}
 use Rattle.bits.proofs.Table.{length-tab, getD-tab, tab-ext}

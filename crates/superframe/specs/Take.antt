@@ -14,7 +14,7 @@ use lib.IntN.{ℤ}
 use lib.ListN.{length, replicate}
 use Rattle.service.specs.Service.{served}
 use Rattle.service.specs.declared.Served.{Served}
-use Rattle.superframe.specs.State.{Factors, joinedState, factorsOf, serviceOf, stateInRange, lostState}
+use Rattle.superframe.specs.State.{Factors, joinedState, serviceOf, stateInRange, lostState}
 use Rattle.superframe.specs.Tape.{synced, blocksOf, noBlocks}
 use Rattle.superframe.specs.Sound.{samplesOf, marksOf}
 use Rattle.superframe.specs.Beside.{programmesOf, noProgrammes, serviceBits, sixOf, syncOf}

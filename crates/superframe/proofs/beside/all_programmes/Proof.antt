@@ -1,12 +1,12 @@
 -- `superframe::beside::all_programmes` meets its contract. Assumes nothing.
-use mathlib.Core.Path.{_≡_, refl, ap, ap₂, _∙_}
-use Prim.Native.Nat.{ℕ, _+_, _-_, _*_, _≤_}
+use mathlib.Core.Path.{_≡_, refl, ap, _∙_}
+use Prim.Native.Nat.{_+_, _-_, _*_, _≤_}
 use native.Mathlib.Omega.{arith}
 use lib.ListN.{length, take, set, length-set}
 use Rattle.bits.specs.Table.{tabulate}
 use Rattle.bits.proofs.Table.{tab-more, tab-done}
 use Rattle.scale.specs.declared.Extra.{Extra}
-use Rattle.superframe.specs.Beside.{extraOf, factorOr, factorRead, numberAt, wordAt, programmesOf}
+use Rattle.superframe.specs.Beside.{factorOr, factorRead, numberAt, wordAt, programmesOf}
 use Rattle.superframe.proofs.Carried.{left-there, right-there}
 use borrow.Author.Needs.{needs}
 use Rattle.superframe.proofs.beside.all_programmes.Statement.{statement}

@@ -1,7 +1,6 @@
 -- `superframe::beside::factor_or` meets its contract. Assumes nothing.
 use borrow.Author.Tests.{eq-eqb, ne-eqb}
 use Rattle.superframe.specs.Beside.{factorOr}
-use borrow.Author.Needs.{needs}
 use Rattle.superframe.proofs.beside.factor_or.Statement.{statement}
 use Rattle.superframe.proofs.beside.factor_or.Tie as tie
 

@@ -1,7 +1,6 @@
 -- `superframe::beside::no_programmes` meets its contract. Assumes nothing.
 use mathlib.Core.Path.{refl}
 use Rattle.superframe.specs.Beside.{noProgrammes}
-use borrow.Author.Needs.{needs}
 use Rattle.superframe.proofs.beside.no_programmes.Statement.{statement}
 use Rattle.superframe.proofs.beside.no_programmes.Tie as tie
 

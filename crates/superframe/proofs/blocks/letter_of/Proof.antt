@@ -1,7 +1,6 @@
 -- `superframe::blocks::letter_of` meets its contract. Assumes nothing.
 use borrow.Author.Tests.{lt-ltb, le-ltb}
 use Rattle.superframe.specs.Tape.{letterOf}
-use borrow.Author.Needs.{needs}
 use Rattle.superframe.proofs.blocks.letter_of.Statement.{statement}
 use Rattle.superframe.proofs.blocks.letter_of.Tie as tie
 

@@ -1,7 +1,6 @@
 -- `superframe::blocks::no_blocks` meets its contract. Assumes nothing.
 use mathlib.Core.Path.{refl}
 use Rattle.superframe.specs.Tape.{noBlocks}
-use borrow.Author.Needs.{needs}
 use Rattle.superframe.proofs.blocks.no_blocks.Statement.{statement}
 use Rattle.superframe.proofs.blocks.no_blocks.Tie as tie
 

@@ -1,8 +1,7 @@
 -- `superframe::sound::four` meets its contract. Assumes nothing.
-use mathlib.Core.Path.{_≡_, refl, sym, ap, ap₂, subst, _∙_}
-use mathlib.Core.Bool.{true}
+use mathlib.Core.Path.{_≡_, sym, ap, _∙_}
 use mathlib.Core.List.{List}
-use Prim.Native.Nat.{ℕ, _+_, _-_, _*_, _/_, _%_, _<_, _≤_}
+use Prim.Native.Nat.{ℕ, _+_, _-_, _*_, _/_, _%_, _≤_}
 use native.Mathlib.Numerals.{add-one}
 use native.Mathlib.Omega.{arith}
 use lib.IntN.{ℤ, pos}
@@ -11,10 +10,9 @@ use mir.Syntax.{w16}
 use mir.Val.{toZ, ofZ}
 use mir.ValLaws.{toZ-ofZ}
 use Rattle.bits.proofs.Table.{filled, filled-zero, filled-set, filled-all, length-filled}
-use Rattle.sample.specs.Sample.{isCode}
-use Rattle.block.specs.Layout.{codeAt, codesAt}
+use Rattle.block.specs.Layout.{codesAt}
 use Rattle.block.specs.Read.{handedOn}
-use Rattle.superframe.specs.Tape.{blockIn, blockMark}
+use Rattle.superframe.specs.Tape.{blockIn}
 use Rattle.superframe.specs.Marks.{rowMark}
 use Rattle.superframe.specs.Sound.{soundAt, markWith, sampleAt, markAt, inRows, quadIn}
 use Rattle.superframe.specs.declared.sound.Quad.{Quad}

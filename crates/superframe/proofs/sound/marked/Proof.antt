@@ -1,7 +1,6 @@
 -- `superframe::sound::marked` meets its contract. Assumes nothing.
 use borrow.Author.Tests.{le-leb, lt-leb}
 use Rattle.superframe.specs.Sound.{markWith}
-use borrow.Author.Needs.{needs}
 use Rattle.superframe.proofs.sound.marked.Statement.{statement}
 use Rattle.superframe.proofs.sound.marked.Tie as tie
 

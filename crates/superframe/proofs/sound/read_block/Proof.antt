@@ -1,10 +1,9 @@
 -- `superframe::sound::read_block` meets its contract. Assumes nothing.
-use mathlib.Core.Path.{_≡_, ap₂, subst, _∙_}
+use mathlib.Core.Path.{subst}
 use mathlib.Core.List.{List}
 use Prim.Native.Nat.{ℕ}
 use native.Mathlib.Omega.{arith}
 use Rattle.block.specs.Read.{IsRead}
-use Rattle.block.specs.Layout.{codesOf}
 use Rattle.superframe.proofs.Samples.{quad-there}
 use borrow.Author.Needs.{needs}
 use Rattle.superframe.proofs.sound.read_block.Statement.{statement}

@@ -1,14 +1,11 @@
 -- `superframe::state::State::take` meets its contract. Assumes nothing.
 use mathlib.Core.Path.{_≡_, refl, sym, ap, _∙_}
-use mathlib.Core.Bool.{true, false}
-use mathlib.Core.List.{List}
-use Prim.Native.Nat.{ℕ}
+use mathlib.Core.Bool.{true}
 use borrow.Author.Tests.{eq-eqb, ne-eqb, not-true, not-false}
 use Rattle.superframe.specs.State.{stateInRange}
 use Rattle.superframe.specs.Marks.{blocksIn}
 use Rattle.superframe.specs.Take.{takeNumber, besideWith, refusedWith}
 use Rattle.superframe.specs.declared.state.Lost.{Lost}
-use Rattle.superframe.specs.declared.blocks.Blocks.{Blocks}
 use Rattle.superframe.proofs.Tape.{gathered-counts}
 use Rattle.superframe.proofs.Took.{lost-next, refused-took, answered-took}
 use borrow.Author.Needs.{needs}
