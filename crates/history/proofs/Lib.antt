@@ -1,0 +1,4 @@
+pub mod Loss
+pub mod Labels
+pub mod Ahead
+pub mod Repaired
