@@ -1,6 +1,4 @@
 -- Service bytes and labels, over the reader's state: what the service machine does, the state's service part does, and the factors stay.
---     serviced-is             an accepted step is the machine's
---     taken-in-range          it hands back a state in range
 --     run-parts               a run of steps: the factors as given, the service part as the machine leaves it
 --     NoLabels r              an answer that hands out no labels
 --     labels-come             a separator and eight groups, all syncs in order, hand out the labels that they spell, with the last six bytes
@@ -17,41 +15,28 @@ use lib.ListN.{length}
 use Rattle.bits.specs.Digits.{Below}
 use Rattle.service.specs.Places.{zeros}
 use Rattle.service.specs.Sync.{kindOf, dropsWith}
-use Rattle.service.specs.Service.{served, searchingService}
+use Rattle.service.specs.Service.{searchingService}
 use Rattle.service.specs.Run.{Step, stepped, after}
 use Rattle.service.specs.Broadcast.{stepOf, broadcast, Separated, labelsOf}
 use Rattle.service.specs.declared.Service.{Service}
-use Rattle.service.proofs.Machine.{InRange, in-range-true, in-range-fact}
 use Rattle.service.proofs.Progress as progress
 use Rattle.service.proofs.Labels as machine
 use Rattle.superframe.specs.State.{factorsOf, serviceOf, joinedState, stateInRange, lostWith, servicedBy, servicedWith}
 use Rattle.history.specs.Run.{taken, behind}
 use Rattle.superframe.specs.declared.state.State.{State}
 use Rattle.superframe.specs.declared.state.Serviced.{Serviced}
-use Rattle.history.proofs.Loss.{factors-in-range, service-in-range, joined-in-range, lost-in-range, lose-accepted}
-
-pub serviced-is : (s : State) (six sync : List ℕ) → stateInRange s ≡ true → servicedWith s six sync ≡ servicedBy s (served (serviceOf s) six sync)
-unfolding servicedWith
-serviced-is s six sync h = rw h
-
-service-fact : (s : State) → stateInRange s ≡ true → InRange (serviceOf s)
-service-fact s h = in-range-fact (serviceOf s) (service-in-range s h)
-
-pub taken-in-range : (s : State) (x : Step) → stateInRange s ≡ true → stateInRange (taken s x .next) ≡ true
-taken-in-range s x h =
-    let next : Service = stepped (serviceOf s) x .next in
-    rw (serviced-is s (x .six) (x .sync) h)
-    (joined-in-range (factorsOf s) next (factors-in-range s h) (in-range-true next (progress.step-moved (serviceOf s) x (service-fact s h) .range)))
+use Rattle.history.proofs.Loss.{lost-in-range, lose-accepted}
+use Rattle.history.proofs.Ranges.{service-fact, serviced-is, service-keeps-range}
 
 pub run-parts : (xs : List Step) (s : State) → stateInRange s ≡ true → behind s xs ≡ joinedState (factorsOf s) (after (serviceOf s) xs)
 unfolding behind after
 run-parts [] s h = refl
-run-parts (x ∷ xs) s h = run-parts xs (taken s x .next) (taken-in-range s x h) ∙ rw (serviced-is s (x .six) (x .sync) h)
+run-parts (x ∷ xs) s h = run-parts xs (taken s x .next) (service-keeps-range s x h) ∙ rw (serviced-is s (x .six) (x .sync) h)
 
 pub run-in-range : (xs : List Step) (s : State) → stateInRange s ≡ true → stateInRange (behind s xs) ≡ true
 unfolding behind
 run-in-range [] s h = h
-run-in-range (x ∷ xs) s h = run-in-range xs (taken s x .next) (taken-in-range s x h)
+run-in-range (x ∷ xs) s h = run-in-range xs (taken s x .next) (service-keeps-range s x h)
 
 -- a step behind a run is the machine's behind the machine's run
 pub taken-is : (xs : List Step) (s : State) (x : Step) → stateInRange s ≡ true
@@ -81,7 +66,7 @@ module _ (s : State) (h : stateInRange s ≡ true) where
       → (xs : List Step) → length xs ≤ 70 → (x : Step) → NoLabels (taken (behind (taken s y .next) xs) x)
   drop-none y b e =
       let reset = progress.drop-resets (serviceOf s) (y .six) (y .sync) (service-fact s h) b e in
-      soon-none (taken s y .next) (taken-in-range s y h) (rw (serviced-is s (y .six) (y .sync) h) reset)
+      soon-none (taken s y .next) (service-keeps-range s y h) (rw (serviced-is s (y .six) (y .sync) h) reset)
 
   module _ (sixes : ℕ → List ℕ) (p : s .position ≡ 1) (t : s .stage ≡ 0) (none : Separated sixes) where
     pub labels-not-before : (k : ℕ) → k < 71 → NoLabels (taken (behind s (broadcast sixes k)) (stepOf sixes k))

@@ -4,7 +4,7 @@
 --     refused-took      a refusal meets the promise: nothing is written
 --     answered-took     and so does an answer, with both lists filled
 -- Assumes nothing.
-use mathlib.Core.Path.{_≡_, sym, ap, _∙_}
+use mathlib.Core.Path.{_≡_, ap, _∙_}
 use mathlib.Core.Bool.{true, false, cond}
 use mathlib.Core.List.{List}
 use Prim.Native.Nat.{ℕ}

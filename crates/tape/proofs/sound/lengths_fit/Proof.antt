@@ -1,7 +1,6 @@
 -- `tape::sound::lengths_fit` meets its contract. Assumes nothing.
 use borrow.Author.Tests.{eq-eqb, ne-eqb}
 use Rattle.tape.specs.Sound.{lengthsFit}
-use borrow.Author.Needs.{needs}
 use Rattle.tape.proofs.sound.lengths_fit.Statement.{statement}
 use Rattle.tape.proofs.sound.lengths_fit.Tie as tie
 
