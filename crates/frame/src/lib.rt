@@ -27,7 +27,7 @@ const SYNC_A: [u8; 11] = [1, 1, 1, 0, 0, 0, 1, 0, 0, 1, 0];
 const SYNC_B: [u8; 11] = [0, 0, 0, 1, 1, 1, 0, 1, 1, 0, 1];
 
 // How many wrong bits a sync may have.
-const MOST_WRONG: u8 = 0;
+pub const MOST_WRONG: u8 = 0;
 
 fn sync_of(letter: Letter) -> [u8; 11]
     ensures { λ r. ⌜ r ≡ syncWord letter ⌝ }

@@ -1,9 +1,2 @@
-pub mod Loss
-pub mod Labels
-pub mod Tape
-pub mod Samples
-pub mod Carried
 pub mod Took
-pub mod Ahead
-pub mod Repaired
 pub mod Unique

@@ -1,17 +1,22 @@
 -- Laws of taking a superframe.
 --     lost-next         the state after a loss, where the state is in its range
+--     good-fill, lost-fill      two lists of their lengths that were to be filled: with every sync in order, or with one that is not
 --     refused-took      a refusal meets the promise: nothing is written
 --     answered-took     and so does an answer, with both lists filled
 -- Assumes nothing.
-use mathlib.Core.Path.{_≡_}
+use mathlib.Core.Path.{_≡_, ap, _∙_}
 use mathlib.Core.Bool.{true, false, cond}
 use mathlib.Core.List.{List}
 use Prim.Native.Nat.{ℕ}
+use native.Mathlib.Omega.{arith}
 use lib.Dec.{eqb}
 use lib.IntN.{ℤ}
+use lib.ListN.{length}
+use Rattle.bits.proofs.Tests.{either-way}
+use Rattle.tape.specs.Tape.{synced, blocksOf, refusedCounts, countedWith}
+use Rattle.tape.specs.Sound.{samplesOf, marksOf, lengthsFit, fillNumber, Filled}
+use Rattle.tape.specs.declared.blocks.Counted.{Counted}
 use Rattle.superframe.specs.State.{stateInRange, lostState, lostWith}
-use Rattle.superframe.specs.Tape.{blocksOf}
-use Rattle.superframe.specs.Sound.{samplesOf, marksOf}
 use Rattle.superframe.specs.Take.{takeNumber, besideWith, refusedWith, takeAnswer, Took}
 use Rattle.superframe.specs.declared.state.State.{State}
 use Rattle.superframe.specs.declared.taking.Taken.{Taken}
@@ -20,12 +25,43 @@ pub lost-next : (s : State) → stateInRange s ≡ true → lostWith s .next ≡
 unfolding lostWith
 lost-next s e = rw e
 
-module _ (s : State) (sf : List ℕ) (samples : List ℤ) (marks : List ℕ) (r : Taken) where
-  pub refused-took : (n : ℕ) → takeNumber s sf samples marks ≡ n → eqb n 0 ≡ false → r ≡ refusedWith n (cond (eqb n 3) (lostState s) s) → Took s sf samples marks r samples marks
-  unfolding takeAnswer
-  refused-took n e z q = record { answer = rw (e, z) q; sound = rw (e, z); marked = rw (e, z) }
+module _ (sf factors : List ℕ) (samples : List ℤ) (marks : List ℕ) (r : Counted) (samples' : List ℤ) (marks' : List ℕ)
+    (f : Filled sf factors samples marks r samples' marks') (fit : lengthsFit (length sf) (length samples) (length marks) ≡ true) where
+  numbered : fillNumber sf samples marks ≡ cond (synced sf) 0 3
+  unfolding fillNumber
+  numbered = rw fit
 
-  pub answered-took : (samples' : List ℤ) (marks' : List ℕ) → takeNumber s sf samples marks ≡ 0 → r ≡ besideWith s sf (blocksOf sf)
+  counted : (n : ℕ) → cond (synced sf) 0 3 ≡ n → r ≡ countedWith n sf
+  counted n e = f .answer ∙ ap (λ (n : ℕ). countedWith n sf) (numbered ∙ e)
+
+  number-good : synced sf ≡ true → r .number ≡ 0
+  unfolding countedWith
+  number-good t = ap (λ (r : Counted). r .number) (counted 0 (rw t))
+
+  number-lost : synced sf ≡ false → r .number ≡ 3
+  unfolding countedWith refusedCounts
+  number-lost t = ap (λ (r : Counted). r .number) (counted 3 (rw t))
+
+  pub good-fill : r .number ≡ 0 → (synced sf ≡ true) × (r .blocks ≡ blocksOf sf) × (samples' ≡ samplesOf sf factors) × (marks' ≡ marksOf sf factors)
+  unfolding countedWith
+  good-fill z =
+      let t : synced sf ≡ true = either-way (synced sf) (λ t. t) (λ t. absurd (omega (arith, z, number-lost t))) in
+      let e : fillNumber sf samples marks ≡ 0 = numbered ∙ rw t in
+      (t, ap (λ (r : Counted). r .blocks) (counted 0 (rw t)), f .sound ∙ rw e, f .marked ∙ rw e)
+
+  pub lost-fill : (r .number ≡ 0 → ⊥) → (synced sf ≡ false) × (samples' ≡ samples) × (marks' ≡ marks)
+  lost-fill z =
+      let t : synced sf ≡ false = either-way (synced sf) (λ t. absurd (z (number-good t))) (λ t. t) in
+      let e : fillNumber sf samples marks ≡ 3 = numbered ∙ rw t in
+      (t, f .sound ∙ rw e, f .marked ∙ rw e)
+
+module _ (s : State) (sf : List ℕ) (samples : List ℤ) (marks : List ℕ) (r : Taken) (samples' : List ℤ) (marks' : List ℕ) where
+  pub refused-took : (n : ℕ) → takeNumber s sf samples marks ≡ n → eqb n 0 ≡ false → r ≡ refusedWith n (cond (eqb n 3) (lostState s) s)
+      → samples' ≡ samples → marks' ≡ marks → Took s sf samples marks r samples' marks'
+  unfolding takeAnswer
+  refused-took n e z q x m = record { answer = rw (e, z) q; sound = rw (e, z) x; marked = rw (e, z) m }
+
+  pub answered-took : takeNumber s sf samples marks ≡ 0 → r ≡ besideWith s sf (blocksOf sf)
       → samples' ≡ samplesOf sf (s .next) → marks' ≡ marksOf sf (s .next) → Took s sf samples marks r samples' marks'
   unfolding takeAnswer
-  answered-took samples' marks' e q x m = record { answer = rw e q; sound = rw e x; marked = rw e m }
+  answered-took e q x m = record { answer = rw e q; sound = rw e x; marked = rw e m }

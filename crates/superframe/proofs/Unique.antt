@@ -4,9 +4,7 @@ use mathlib.Core.List.{List}
 use Prim.Native.Nat.{ℕ}
 use Rattle.bits.proofs.Unique.{same}
 use lib.IntN.{ℤ}
-use Rattle.superframe.specs.Tape.{countsOf}
 use Rattle.superframe.specs.Take.{Took}
-use Rattle.superframe.specs.declared.blocks.Counted.{Counted}
 use Rattle.superframe.specs.declared.taking.Taken.{Taken}
 use Rattle.superframe.specs.State.{freshState, lostWith, servicedWith}
 use Rattle.superframe.specs.declared.state.State.{State}
@@ -22,9 +20,6 @@ module _ (s : State) where
 
   pub take-service-unique : (r r' : Serviced) (six sync : List ℕ) → r ≡ servicedWith s six sync → r' ≡ servicedWith s six sync → r ≡ r'
   take-service-unique r r' six sync = same
-
-pub counts-unique : (r r' : Counted) (sf : List ℕ) → r ≡ countsOf sf → r' ≡ countsOf sf → r ≡ r'
-counts-unique r r' sf = same
 
 module _ (s : State) (sf : List ℕ) (samples : List ℤ) (marks : List ℕ) (r r' : Taken) (x x' : List ℤ) (m m' : List ℕ) where
   pub take-unique : Took s sf samples marks r x m → Took s sf samples marks r' x' m' → (r ≡ r') × (x ≡ x') × (m ≡ m')

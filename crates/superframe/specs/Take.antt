@@ -2,6 +2,7 @@
 --     takeNumber s sf samples marks     the number: 1 for a wrong length, then 2 for a state out of range, then 3 for a wrong sync, else 0
 --     takenFactors s sf     the factors move on by one, and those read hold for the superframe after the next
 --     besideWith s sf b     the answer where nothing is refused, with the readings counted as b
+--     noProgrammes          of a refused superframe: zeros
 --     refusedWith n s       number n, zeros, and a state
 --     takeAnswer n s sf     the answer by its number: refused with 3 the state after one lost superframe, with 1 and 2 the state as given
 --     Took s sf samples marks r samples' marks'     THE PROMISE: the answer, and what the two lent lists then hold; refused, they are untouched
@@ -14,27 +15,24 @@ use lib.IntN.{ℤ}
 use lib.ListN.{length, replicate}
 use Rattle.service.specs.Service.{served}
 use Rattle.service.specs.declared.Served.{Served}
+use Rattle.tape.specs.Tape.{synced, blocksOf, noBlocks}
+use Rattle.tape.specs.Sound.{samplesOf, marksOf, lengthsFit}
+use Rattle.beside.specs.Beside.{programmesOf, sixAndSync}
+use Rattle.tape.specs.declared.blocks.Blocks.{Blocks}
+use Rattle.beside.specs.declared.Programmes.{Programmes}
 use Rattle.superframe.specs.State.{Factors, joinedState, serviceOf, stateInRange, lostState}
-use Rattle.superframe.specs.Tape.{synced, blocksOf, noBlocks}
-use Rattle.superframe.specs.Sound.{samplesOf, marksOf}
-use Rattle.superframe.specs.Beside.{programmesOf, noProgrammes, serviceBits, sixOf, syncOf}
 use Rattle.superframe.specs.declared.state.State.{State}
-use Rattle.superframe.specs.declared.blocks.Blocks.{Blocks}
 use Rattle.superframe.specs.declared.taking.Taken.{Taken}
 
 unfoldable pub takeNumber : State → List ℕ → List ℤ → List ℕ → ℕ
 takeNumber s sf samples marks =
-    cond (eqb (length sf) 5120)
-    (cond (eqb (length samples) 2048)
-    (cond (eqb (length marks) 2048) (cond (stateInRange s) (cond (synced sf) 0 3) 2) 1)
-    1)
-    1
+    cond (lengthsFit (length sf) (length samples) (length marks)) (cond (stateInRange s) (cond (synced sf) 0 3) 2) 1
 
 abbrev pub takenFactors : State → List ℕ → Factors
 takenFactors s sf = record { next = s .after; after = programmesOf sf .factors }
 
 abbrev pub servedIn : State → List ℕ → Served
-servedIn s sf = served (serviceOf s) (sixOf (serviceBits sf)) (syncOf (serviceBits sf))
+servedIn s sf = served (serviceOf s) (sixAndSync sf .six) (sixAndSync sf .sync)
 
 unfoldable pub besideWith : State → List ℕ → Blocks → Taken
 besideWith s sf b =
@@ -43,12 +41,15 @@ besideWith s sf b =
       next = joinedState (takenFactors s sf) (servedIn s sf .next);
       blocks = b;
       programmes = programmesOf sf;
-      six = sixOf (serviceBits sf);
+      six = sixAndSync sf .six;
       position = servedIn s sf .position;
       service = servedIn s sf .number;
       complete = servedIn s sf .complete;
       labels = servedIn s sf .labels;
     }
+
+unfoldable pub noProgrammes : Programmes
+noProgrammes = record { numbers = replicate 16 0; factors = replicate 32 0; words = replicate 16 0 }
 
 unfoldable pub refusedWith : ℕ → State → Taken
 refusedWith n s =

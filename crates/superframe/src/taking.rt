@@ -1,14 +1,10 @@
 // A superframe is taken: its samples and marks go into two lent slices, and the state comes back with the answer.
 ghost use mathlib.Core.Path.{_≡_};
-ghost use lib.ListN.{length};
 ghost use Rattle.superframe.specs.Take.{besideWith, refusedWith, Took};
-use super::beside;
-use super::beside::Programmes;
-use super::blocks;
-use super::blocks::Blocks;
-use super::sound;
 use super::state;
 use super::state::State;
+use beside::Programmes;
+use tape::Blocks;
 
 // The answer to a superframe. Refused, all but the number and the state is 0.
 pub struct Taken {
@@ -32,11 +28,21 @@ pub struct Taken {
 fn refused(number: u8, next: State) -> Taken
     ensures { λ r. ⌜ r ≡ refusedWith number next ⌝ }
 {
+    let blocks = Blocks {
+        clean: [0u8; 8],
+        mended: [0u8; 8],
+        bad: [0u8; 8],
+    };
+    let programmes = Programmes {
+        numbers: [0u8; 16],
+        factors: [0u8; 32],
+        words: [0u32; 16],
+    };
     Taken {
         number,
         next,
-        blocks: blocks::no_blocks(),
-        programmes: beside::no_programmes(),
+        blocks,
+        programmes,
         six: [0u8; 6],
         position: 0,
         service: 0,
@@ -47,13 +53,12 @@ fn refused(number: u8, next: State) -> Taken
 
 // All that is answered beside the samples and marks, with the readings already counted.
 fn answered(state: State, bytes: &[u8], blocks: Blocks) -> Taken
-    requires { ⌜ length (now bytes) ≡ 5120 ⌝ }
     ensures { λ r. ⌜ r ≡ besideWith state (now (bytes .entry)) blocks ⌝ }
 {
-    let programmes = beside::all_programmes(bytes);
-    let bits = beside::service_bits(bytes);
-    let six = beside::six_of(bits);
-    let sync = beside::sync_of(bits);
+    let programmes = beside::programmes_of(bytes);
+    let sent = beside::six_and_sync(bytes);
+    let six = sent.six;
+    let sync = sent.sync;
     let served = service::serve(state::service_of(state), six, sync);
     let moved = state.after;
     let read = programmes.factors;
@@ -74,30 +79,24 @@ fn answered(state: State, bytes: &[u8], blocks: Blocks) -> Taken
 }
 
 impl State {
-    // Refused, nothing is written: all 128 syncs are looked at before the first sample.
+    // Refused, nothing is written.
     pub fn take(self, bytes: &[u8], samples: &mut [i16], marks: &mut [u8]) -> Taken
         ensures { λ r. ⌜ Took self (now (bytes .entry)) (now (samples .entry)) (now (marks .entry)) r (now (samples .exit)) (now (marks .exit)) ⌝ }
     {
-        if bytes.len() != 5120 {
-            return refused(1, self);
-        }
-        if samples.len() != 2048 {
-            return refused(1, self);
-        }
-        if marks.len() != 2048 {
+        if !tape::lengths_fit(bytes.len(), samples.len(), marks.len()) {
             return refused(1, self);
         }
         if !self.in_range() {
             return refused(2, self);
         }
-        if !blocks::all_synced(bytes) {
+        let factors = self.next;
+        let counted = tape::fill(bytes, &factors, samples, marks);
+        if counted.number != 0 {
             let lost = self.lose();
             let next = lost.next;
             return refused(3, next);
         }
-        let factors = self.next;
-        let read = sound::fill(bytes, &factors, samples, marks);
-        let counted = blocks::gathered(read);
-        answered(self, bytes, counted)
+        let blocks = counted.blocks;
+        answered(self, bytes, blocks)
     }
 }

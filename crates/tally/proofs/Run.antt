@@ -12,7 +12,7 @@ use borrow.Author.Tests.{eq-eqb}
 use lib.ListN.{length}
 use Rattle.bits.proofs.Tests.{either-way}
 use Rattle.reel.specs.Header.{mostSuperframes}
-use Rattle.superframe.specs.Tape.{synced, blocksOf, noBlocks, countsOf}
+use Rattle.tape.specs.Tape.{synced, blocksOf, noBlocks, refusedCounts, countedWith, countsOf}
 use Rattle.tally.specs.Totals.{grown, sumOf, noTotals, withCounted, stepped, totalsFrom, totalsOf}
 use Rattle.tally.specs.Reel.{isLost, blocksWith, total, counted, Superframes}
 use Rattle.tally.specs.declared.Totals.{Totals}
@@ -54,7 +54,7 @@ withOne : (t : Totals) (sf : List ℕ) → length sf ≡ 5120 →
       mended = grown (t .mended) (blocksWith 1 sf);
       bad = grown (t .bad) (blocksWith 2 sf);
     }
-unfolding stepped withCounted countsOf isLost blocksWith blocksOf noBlocks sumOf
+unfolding stepped withCounted countsOf countedWith refusedCounts isLost blocksWith blocksOf noBlocks sumOf
 withOne t sf l = rw (eq-eqb (length sf) 5120 l) (either-way (synced sf) (λ e. rw e refl) (λ e. rw e refl))
 
 step-adds : (t : Totals) (sf : List ℕ) (n : ℕ) → length sf ≡ 5120 → Room t (suc n) → stepped t sf ≡ added t (one sf)

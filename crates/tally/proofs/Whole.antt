@@ -10,7 +10,7 @@ use lib.Dec.{eqb}
 use Rattle.bits.specs.Table.{tabulate}
 use Rattle.bits.proofs.Tests.{either-way}
 use Rattle.block.specs.Read.{Said, clean, mended, bad}
-use Rattle.superframe.specs.Tape.{synced, readingIn, markOf, blockMark, howMany, tallied}
+use Rattle.tape.specs.Tape.{synced, readingIn, markOf, blockMark, howMany, tallied}
 use Rattle.tally.specs.Totals.{sumOf}
 use Rattle.tally.specs.Reel.{isLost, blocksWith}
 use Rattle.tally.proofs.Sums.{sum-snoc}

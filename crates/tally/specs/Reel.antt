@@ -9,7 +9,7 @@ use mathlib.Core.Path.{_≡_}
 use mathlib.Core.Bool.{cond}
 use mathlib.Core.List.{List, [], _∷_}
 use lib.ListN.{length}
-use Rattle.superframe.specs.Tape.{synced, tallied}
+use Rattle.tape.specs.Tape.{synced, tallied}
 use Rattle.tally.specs.Totals.{sumOf}
 use Rattle.tally.specs.declared.Totals.{Totals}
 

@@ -8,8 +8,8 @@ use Prim.Native.Nat.{ℕ, _+_, _-_, _^_, min}
 use mathlib.Core.Bool.{cond}
 use mathlib.Core.List.{List, [], _∷_}
 use lib.Dec.{eqb}
-use Rattle.superframe.specs.Tape.{countsOf}
-use Rattle.superframe.specs.declared.blocks.Counted.{Counted}
+use Rattle.tape.specs.Tape.{countsOf}
+use Rattle.tape.specs.declared.blocks.Counted.{Counted}
 use Rattle.tally.specs.declared.Totals.{Totals}
 
 unfoldable pub grown : ℕ → ℕ → ℕ

@@ -63,7 +63,7 @@ impl Totals {
     pub fn step(self, superframe: &[u8]) -> Self
         ensures { λ r. ⌜ r ≡ stepped self (now (superframe .entry)) ⌝ }
     {
-        let counted = superframe::counts(superframe);
+        let counted = tape::counts(superframe);
         let number = counted.number;
         if number == 1 {
             return self;

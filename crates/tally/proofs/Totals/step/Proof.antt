@@ -6,8 +6,8 @@ use mathlib.Core.List.{List}
 use mathlib.Core.Logic.{⊎-elim}
 use borrow.Author.Tests.{eq-eqb, ne-eqb}
 use lib.Dec.{eqb}
-use Rattle.superframe.specs.Tape.{countsOf}
-use Rattle.superframe.specs.declared.blocks.Counted.{Counted}
+use Rattle.tape.specs.Tape.{countsOf}
+use Rattle.tape.specs.declared.blocks.Counted.{Counted}
 use Rattle.tally.specs.Totals.{grown, withCounted, stepped}
 use Rattle.tally.specs.declared.Totals.{Totals}
 use borrow.Author.Needs.{needs}

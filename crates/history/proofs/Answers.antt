@@ -1,0 +1,113 @@
+-- What a call of `take` can answer, whatever it was given.
+--     numbered, answer-is   the answer by its number
+--     accepted-in-range     a superframe is accepted from a state in range only
+--     service-number        the service answers 0 or 7, and no other number
+--     programme-number      each programme 0 or 5
+--     counted-same          the number and the readings of a superframe that is taken or lost are those that counting gives, without a state
+-- Assumes nothing.
+use mathlib.Core.Path.{_≡_, refl, sym, ap, _∙_}
+use mathlib.Core.Logic.{_⊎_, inl, inr, ⊎-elim}
+use mathlib.Core.Bool.{true, _&&_}
+use mathlib.Core.List.{List}
+use Prim.Native.Nat.{ℕ, _<_}
+use native.Mathlib.Omega.{arith}
+use borrow.Author.Tests.{eqb-true}
+use lib.Dec.{eqb}
+use lib.IntN.{ℤ}
+use lib.ListN.{length, getD, getD-replicate}
+use Rattle.bits.proofs.Table.{getD-tab}
+use Rattle.bits.proofs.Tests.{either-way, both-true}
+use Rattle.service.specs.Sync.{sync1, sync2, agree, kindOf}
+use Rattle.service.proofs.Machine.{served-is}
+use Rattle.tape.specs.Tape.{refusedCounts, countedWith, countsOf}
+use Rattle.tape.specs.Sound.{lengthsFit}
+use Rattle.beside.specs.Beside.{numberAt, programmesOf, sixAndSync}
+use Rattle.superframe.specs.State.{serviceOf, stateInRange}
+use Rattle.superframe.specs.Take.{takeNumber, servedIn, besideWith, noProgrammes, refusedWith, takeAnswer}
+use Rattle.superframe.specs.declared.state.State.{State}
+use Rattle.superframe.specs.declared.taking.Taken.{Taken}
+use Rattle.history.specs.Calls.{Call, Accepted, LostIn}
+use Rattle.history.proofs.Carries.{sync-below, number-small}
+use Rattle.history.proofs.Ranges.{service-fact}
+
+number-is : (n : ℕ) (s : State) (sf : List ℕ) → takeAnswer n s sf .number ≡ n
+unfolding takeAnswer besideWith refusedWith
+number-is n s sf = either-way (eqb n 0) (λ t. rw t (sym (eqb-true n 0 t))) (λ t. rw t)
+
+number-in-range : (s : State) (sf : List ℕ) (samples : List ℤ) (marks : List ℕ) → takeNumber s sf samples marks ≡ 0 → stateInRange s ≡ true
+unfolding takeNumber
+number-in-range s sf samples marks e =
+    either-way (lengthsFit (length sf) (length samples) (length marks))
+    (λ t. either-way (stateInRange s) (λ u. u) (λ u. let z : takeNumber s sf samples marks ≡ 2 = rw (t, u) in absurd (omega arith)))
+    (λ t. let z : takeNumber s sf samples marks ≡ 1 = rw t in absurd (omega arith))
+
+-- ---- the service
+served-number : (s : State) (sf : List ℕ) → stateInRange s ≡ true → (servedIn s sf .number ≡ 0) ⊎ (servedIn s sf .number ≡ 7)
+unfolding kindOf
+served-number s sf h =
+    rw (served-is (serviceOf s) (sixAndSync sf .six) (service-fact s h) (sixAndSync sf .sync) (sync-below sf))
+    (either-way (agree (sixAndSync sf .sync) sync1)
+    (λ t. rw t (inl refl))
+    (λ t. rw t (either-way (agree (sixAndSync sf .sync) sync2) (λ u. rw u (inl refl)) (λ u. rw u (inr refl)))))
+
+answer-service : (n : ℕ) (s : State) (sf : List ℕ) → (n ≡ 0 → stateInRange s ≡ true) → (takeAnswer n s sf .service ≡ 0) ⊎ (takeAnswer n s sf .service ≡ 7)
+unfolding takeAnswer besideWith refusedWith
+answer-service n s sf h = either-way (eqb n 0) (λ t. rw t (served-number s sf (h (eqb-true n 0 t)))) (λ t. rw t (inl refl))
+
+-- ---- the programmes
+module _ (n : ℕ) (s : State) (sf : List ℕ) (q : ℕ) (l : q < 16) where
+  answer-programme : (getD (takeAnswer n s sf .programmes .numbers) q 0 ≡ 0) ⊎ (getD (takeAnswer n s sf .programmes .numbers) q 0 ≡ 5)
+  unfolding takeAnswer besideWith refusedWith programmesOf noProgrammes
+  answer-programme =
+      either-way (eqb n 0)
+      (λ t. rw (t, getD-tab 16 (numberAt sf) q 0 l) (number-small sf q))
+      (λ t. rw (t, getD-replicate {A = ℕ} 16 q 0 0 l) (inl refl))
+
+-- ---- counting
+superframe-fits : (n m k : ℕ) → lengthsFit n m k ≡ true → eqb n 5120 ≡ true
+unfolding lengthsFit
+superframe-fits n m k t = both-true (eqb n 5120) (eqb m 2048 && eqb k 2048) t .0
+
+sync-number : (s : State) (sf : List ℕ) (samples : List ℤ) (marks : List ℕ) →
+    (takeNumber s sf samples marks ≡ 0) ⊎ (takeNumber s sf samples marks ≡ 3) → countsOf sf ≡ countedWith (takeNumber s sf samples marks) sf
+unfolding takeNumber countsOf
+sync-number s sf samples marks e =
+    either-way (lengthsFit (length sf) (length samples) (length marks))
+    (λ t. either-way (stateInRange s)
+      (λ u. rw (superframe-fits (length sf) (length samples) (length marks) t, t, u))
+      (λ u. let z : takeNumber s sf samples marks ≡ 2 = rw (t, u) in absurd (⊎-elim (λ e. omega arith) (λ e. omega arith) e)))
+    (λ t. let z : takeNumber s sf samples marks ≡ 1 = rw t in absurd (⊎-elim (λ e. omega arith) (λ e. omega arith) e))
+
+same-counts : (n : ℕ) (s : State) (sf : List ℕ) →
+    (takeAnswer n s sf .number ≡ countedWith n sf .number) × (takeAnswer n s sf .blocks ≡ countedWith n sf .blocks)
+unfolding takeAnswer besideWith refusedWith countedWith refusedCounts
+same-counts n s sf = either-way (eqb n 0) (λ t. rw t (refl, refl)) (λ t. rw t (refl, refl))
+
+-- ---- a call
+module _ (s : State) (k : Call s) where
+  abbrev number : ℕ
+  number = takeNumber s (k .bytes) (k .lent-samples) (k .lent-marks)
+
+  pub numbered : number ≡ k .answer .number
+  numbered = sym (ap (λ (r : Taken). r .number) (k .took .answer) ∙ number-is number s (k .bytes))
+
+  pub answer-is : (n : ℕ) → k .answer .number ≡ n → k .answer ≡ takeAnswer n s (k .bytes)
+  answer-is n z = k .took .answer ∙ ap (λ (n : ℕ). takeAnswer n s (k .bytes)) (numbered ∙ z)
+
+  pub accepted-in-range : Accepted k → stateInRange s ≡ true
+  accepted-in-range z = number-in-range s (k .bytes) (k .lent-samples) (k .lent-marks) (numbered ∙ z)
+
+  pub service-number : (k .answer .service ≡ 0) ⊎ (k .answer .service ≡ 7)
+  service-number =
+      rw (k .took .answer)
+      (answer-service number s (k .bytes) (λ z. number-in-range s (k .bytes) (k .lent-samples) (k .lent-marks) z))
+
+  pub programme-number : (q : ℕ) → q < 16 → (getD (k .answer .programmes .numbers) q 0 ≡ 0) ⊎ (getD (k .answer .programmes .numbers) q 0 ≡ 5)
+  programme-number q l = rw (k .took .answer) (answer-programme number s (k .bytes) q l)
+
+  pub counted-same :
+      Accepted k ⊎ LostIn k →
+      (k .answer .number ≡ countsOf (k .bytes) .number) × (k .answer .blocks ≡ countsOf (k .bytes) .blocks)
+  counted-same e =
+      let c = sync-number s (k .bytes) (k .lent-samples) (k .lent-marks) (⊎-elim (λ z. inl (numbered ∙ z)) (λ z. inr (numbered ∙ z)) e) in
+      rw (k .took .answer, c) (same-counts number s (k .bytes))

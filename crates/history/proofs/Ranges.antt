@@ -1,0 +1,70 @@
+-- A state in range stays in range, whatever is done with it.
+--     service-fact          the state's service part, in its own range
+--     serviced-is           an accepted step of the service is the machine's
+--     lose-in-range         after a loss
+--     service-keeps-range   after six service bytes
+--     take-in-range         after a superframe, taken, refused or lost
+-- Assumes nothing.
+use mathlib.Core.Path.{_≡_}
+use mathlib.Core.Bool.{true}
+use mathlib.Core.List.{List}
+use Prim.Native.Nat.{ℕ}
+use lib.Dec.{eqb}
+use Rattle.bits.specs.Table.{tabulate}
+use Rattle.bits.specs.Bits.{allBelow}
+use Rattle.bits.proofs.Tests.{either-way}
+use Rattle.bits.proofs.Digits.{below-tab}
+use Rattle.bits.proofs.Bits.{below-all}
+use Rattle.service.specs.Service.{inRange, served}
+use Rattle.service.specs.Run.{Step, stepped}
+use Rattle.service.proofs.Tests.{both, both-right}
+use Rattle.service.proofs.Machine.{InRange, in-range-true, in-range-fact}
+use Rattle.service.proofs.Progress as progress
+use Rattle.beside.specs.Beside.{factorRead, programmesOf, sixAndSync}
+use Rattle.superframe.specs.State.{factorsOf, serviceOf, stateInRange, lostWith, servicedBy, servicedWith}
+use Rattle.superframe.specs.Take.{takeNumber, takenFactors, besideWith, refusedWith, takeAnswer}
+use Rattle.superframe.specs.declared.state.State.{State}
+use Rattle.history.specs.Run.{taken}
+use Rattle.history.specs.Calls.{Call}
+use Rattle.history.proofs.Loss.{factors-in-range, service-in-range, joined-in-range, lost-in-range, lose-accepted}
+use Rattle.history.proofs.Carries.{factor-small}
+
+pub service-fact : (s : State) → stateInRange s ≡ true → InRange (serviceOf s)
+service-fact s h = in-range-fact (serviceOf s) (service-in-range s h)
+
+machine-in-range : (s : State) (x : Step) → stateInRange s ≡ true → inRange (stepped (serviceOf s) x .next) ≡ true
+machine-in-range s x h =
+    in-range-true (stepped (serviceOf s) x .next) (progress.step-moved (serviceOf s) x (service-fact s h) .range)
+
+pub lose-in-range : (s : State) → stateInRange s ≡ true → stateInRange (lostWith s .next) ≡ true
+lose-in-range s h = rw (lose-accepted s h) (lost-in-range s h)
+
+pub serviced-is : (s : State) (six sync : List ℕ) → stateInRange s ≡ true → servicedWith s six sync ≡ servicedBy s (served (serviceOf s) six sync)
+unfolding servicedWith
+serviced-is s six sync h = rw h
+
+pub service-keeps-range : (s : State) (x : Step) → stateInRange s ≡ true → stateInRange (taken s x .next) ≡ true
+service-keeps-range s x h =
+    rw (serviced-is s (x .six) (x .sync) h)
+    (joined-in-range (factorsOf s) (stepped (serviceOf s) x .next) (factors-in-range s h) (machine-in-range s x h))
+
+-- ---- a superframe
+factors-known : (s : State) (sf : List ℕ) → stateInRange s ≡ true → (allBelow 9 (s .after) ≡ true) × (allBelow 9 (programmesOf sf .factors) ≡ true)
+unfolding programmesOf
+factors-known s sf h = (
+  both-right (allBelow 9 (s .next)) (allBelow 9 (s .after)) (factors-in-range s h),
+  below-all 9 (tabulate 32 (factorRead sf)) (below-tab 9 32 (factorRead sf) (λ c l. factor-small sf c)),
+)
+
+answer-in-range : (n : ℕ) (s : State) (sf : List ℕ) → stateInRange s ≡ true → stateInRange (takeAnswer n s sf .next) ≡ true
+unfolding takeAnswer besideWith refusedWith
+answer-in-range n s sf h =
+    let x : Step = record { six = sixAndSync sf .six; sync = sixAndSync sf .sync } in
+    let known = factors-known s sf h in
+    either-way (eqb n 0)
+    (λ t. rw t (joined-in-range (takenFactors s sf) (stepped (serviceOf s) x .next) (both _ _ (known .0) (known .1)) (machine-in-range s x h)))
+    (λ t. rw t (either-way (eqb n 3) (λ u. rw u (lost-in-range s h)) (λ u. rw u h)))
+
+module _ (s : State) (k : Call s) where
+  pub take-in-range : stateInRange s ≡ true → stateInRange (k .answer .next) ≡ true
+  take-in-range h = rw (k .took .answer) (answer-in-range (takeNumber s (k .bytes) (k .lent-samples) (k .lent-marks)) s (k .bytes) h)

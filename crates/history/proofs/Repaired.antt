@@ -1,0 +1,145 @@
+-- A superframe whose blocks were written, and then changed in at most two of their 63 protected places and in none of bits 64 to 75.
+--     code-back             the codes come back as they were sent
+--     mark-small            the mark of the block is 0 or 1
+--     sent-heard            THE SAMPLE is the rule's for the code sent and the mark 0 or 1, where the factor is there
+--     sent-silent           else the sample is 0, and the mark 3
+-- Assumes nothing.
+use mathlib.Core.Path.{_≡_, sym, ap, _∙_}
+use mathlib.Core.List.{List, _++_}
+use Prim.Native.Nat.{ℕ, zero, suc, _+_, _-_, _*_, _/_, _%_, _<_, _≤_}
+use native.Mathlib.Omega.{arith}
+use borrow.Author.Tests.{ltb-true, ltb-false, le-leb, lt-leb}
+use lib.Dec.{ltb}
+use lib.IntN.{ℤ, pos}
+use lib.ListN.{length, getD, take, drop, length-append, length-drop}
+use lib.Seq.{ext-getD, getD-take, getD-drop, drop-at}
+use Rattle.bits.specs.Bits.{ones}
+use Rattle.bits.proofs.Tests.{either-way}
+use Rattle.bits.proofs.Digits.{below-append}
+use Rattle.bits.proofs.Bits.{bits-below}
+use Rattle.code.specs.Generators.{blockGenerator}
+use Rattle.code.specs.Words.{encode}
+use Rattle.sample.specs.Sample.{sampleOf}
+use Rattle.sample.specs.Pattern.{bitsCode}
+use Rattle.block.specs.Layout.{sound, rest, fourteen, placeOf, codeAt, codesAt, codesOf}
+use Rattle.block.specs.Layout as L
+use Rattle.block.specs.Read.{saidWith, handedOn}
+use Rattle.block.specs.declared.BlockCodes.{BlockCodes}
+use Rattle.block.specs.Demand.{Sent}
+use Rattle.block.proofs.Places.{length-sound, length-rest, below-sound, below-rest, length-63, length-block, at-sound, length-fourteen, fourteen-at}
+use Rattle.block.proofs.Demand.{heard, third}
+use Rattle.block.proofs.Back.{written-clean, written-codes}
+use Rattle.tape.specs.Tape.{blockIn, markOf, blockMark}
+use Rattle.tape.specs.Sound.{soundAt, markWith, codeIn, sampleAt, markAt}
+use Rattle.history.specs.Calls.{SentIn}
+use Rattle.tape.proofs.Tape.{reading-there}
+use Rattle.tape.proofs.Samples.{code-there}
+
+-- two blocks with the same first 44 bits and the same last 14 have the same codes
+module _ (x y : List ℕ) (size : length x ≡ 77) (size' : length y ≡ 77) (front : take 44 x ≡ take 44 y) (back : drop 63 x ≡ drop 63 y) where
+  early : (p : ℕ) → p < 44 → getD x p 0 ≡ getD y p 0
+  early p h = sym (getD-take 44 x p 0 h) ∙ ap (λ (l : List ℕ). getD l p 0) front ∙ getD-take 44 y p 0 h
+
+  late : (p : ℕ) → 63 ≤ p → getD x p 0 ≡ getD y p 0
+  late p h =
+      let at : 63 + (p - 63) ≡ p = omega arith in
+      ap (λ (n : ℕ). getD x n 0) (sym at)
+      ∙ sym (getD-drop 63 x (p - 63) 0) ∙ ap (λ (l : List ℕ). getD l (p - 63) 0) back ∙ getD-drop 63 y (p - 63) 0
+      ∙ ap (λ (n : ℕ). getD y n 0) at
+
+  same-place : (c k : ℕ) → c < 4 → k < 14 → getD x (placeOf c k) 0 ≡ getD y (placeOf c k) 0
+  unfolding placeOf
+  same-place c k h l =
+      either-way (ltb k 11)
+      (λ t. let u : k < 11 = ltb-true k 11 t in rw t (early (11 * c + k) (omega arith)))
+      (λ t. let u : 11 ≤ k = ltb-false k 11 t in rw t (late (52 + 3 * c + k) (omega arith)))
+
+  same-code : (c : ℕ) → c < 4 → codeAt x c ≡ codeAt y c
+  unfolding codeAt
+  same-code c h =
+      let long = length-fourteen x size c h in
+      let long' = length-fourteen y size' c h in
+      ap bitsCode
+      (ext-getD 0 (fourteen x c) (fourteen y c) (long ∙ sym long')
+      (λ k l.
+      let within : k < 14 = omega arith in
+      sym (fourteen-at x size c h k within) ∙ same-place c k h within ∙ fourteen-at y size' c h k within))
+
+marked-with : (n : ℕ) → markOf (saidWith n) ≤ 1
+unfolding markOf saidWith
+marked-with zero = omega arith
+marked-with (suc n) = omega arith
+
+module _ (sf : List ℕ) (f p : ℕ) (codes : List ℤ) (extra mask : List ℕ) (h : SentIn sf f p codes extra mask) where
+  abbrev other : List ℕ
+  other = rest codes ++ extra
+
+  abbrev written : List ℕ
+  written = L.blockOf codes extra
+
+  length-other : length other ≡ 14
+  length-other = length-append (rest codes) extra ∙ omega (arith, length-rest codes, h .four, h .two)
+
+  sent : Sent (sound codes) mask other
+  sent =
+      record {
+        sound-size = omega (arith, length-sound codes, h .four);
+        sound-bits = below-sound codes;
+        mask-size = h .places;
+        other-size = length-other;
+        other-bits = below-append 2 (rest codes) extra (below-rest codes) (bits-below extra (h .bits));
+      }
+
+  -- the block as it is handed on, and as it was written
+  front-back : take 44 (handedOn (blockIn sf f p)) ≡ sound codes
+  front-back = rw (h .arrived) (third .back (sound codes) mask other sent (h .few))
+
+  rest-back : drop 63 (handedOn (blockIn sf f p)) ≡ other
+  rest-back = rw (h .arrived) (third .others (sound codes) mask other sent)
+
+  written-rest : drop 63 written ≡ other
+  unfolding L.blockOf
+  written-rest = drop-at (encode blockGenerator (sound codes)) other 63 (length-63 codes extra (h .four))
+
+  written-front : take 44 written ≡ sound codes
+  written-front =
+      let size = length-block codes extra (h .four) in
+      let long : length (take 44 written) ≡ 44 = lib.Seq.length-take-le 44 written (omega (arith, h .two)) in
+      let sounds : length (sound codes) ≡ 44 = omega (arith, length-sound codes, h .four) in
+      ext-getD 0 (take 44 written) (sound codes) (long ∙ sym sounds)
+      (λ j l. let within : j < 44 = omega arith in getD-take 44 written j 0 within ∙ sym (at-sound codes extra (h .four) j within))
+
+  handed-size : length (handedOn (blockIn sf f p)) ≡ 77
+  handed-size = omega (arith, length-drop 63 (handedOn (blockIn sf f p)), ap length rest-back, length-other)
+
+  written-code : (j : ℕ) → j < 4 → codeAt written j ≡ getD codes j (pos 0)
+  unfolding codesOf
+  written-code j l =
+      let bits = heard written Rattle.block.specs.Read.clean (written-clean codes extra (h .four) (h .two) (h .good) (h .bits)) .0 in
+      let same : codesAt written ≡ codes = rw bits at (ap (λ (b : BlockCodes). b .codes) (written-codes codes extra (h .four) (h .two) (h .good) (h .bits))) in
+      sym (code-there written j l) ∙ ap (λ (l : List ℤ). getD l j (pos 0)) same
+
+  pub code-back : (j : ℕ) → j < 4 → codeAt (handedOn (blockIn sf f p)) j ≡ getD codes j (pos 0)
+  code-back j l =
+      same-code (handedOn (blockIn sf f p)) written handed-size (length-block codes extra (h .four) ∙ omega (arith, h .two))
+      (front-back ∙ sym written-front) (rest-back ∙ sym written-rest) j l
+      ∙ written-code j l
+
+  pub mark-small : f < 64 → p < 8 → blockMark sf f p ≤ 1
+  unfolding blockMark
+  mark-small l m =
+      let said-so = third .number (sound codes) mask other sent (h .few) in
+      let same = heard (blockIn sf f p) (saidWith (ones mask)) (rw (h .arrived) said-so) .1 in
+      rw (reading-there sf f p l m ∙ same) (marked-with (ones mask))
+
+module _ (sf factors : List ℕ) (f c : ℕ) (codes : List ℤ) (extra mask : List ℕ) (l : f < 64) (m : c < 32) (h : SentIn sf f (c / 4) codes extra mask) where
+  pub sent-heard : getD factors c 0 ≤ 7 → (sampleAt sf factors f c ≡ sampleOf (getD codes (c % 4) (pos 0)) (getD factors c 0)) × (markAt sf factors f c ≤ 1)
+  unfolding sampleAt markAt soundAt markWith codeIn
+  sent-heard s = (
+    rw (le-leb (getD factors c 0) 7 s, code-back sf f (c / 4) codes extra mask h (c % 4) (omega arith)),
+    rw (le-leb (getD factors c 0) 7 s) (mark-small sf f (c / 4) codes extra mask h l (omega arith)),
+  )
+
+  pub sent-silent : 7 < getD factors c 0 → (sampleAt sf factors f c ≡ pos 0) × (markAt sf factors f c ≡ 3)
+  unfolding sampleAt markAt soundAt markWith
+  sent-silent s = (rw (lt-leb (getD factors c 0) 7 s), rw (lt-leb (getD factors c 0) 7 s))

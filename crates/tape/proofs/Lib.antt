@@ -1,0 +1,3 @@
+pub mod Tape
+pub mod Samples
+pub mod Unique

@@ -1,0 +1,162 @@
+// The 128 syncs and the 512 blocks of a superframe, from its bytes alone.
+ghost use mathlib.Core.Path.{_≡_};
+ghost use Prim.Native.Nat.{_<_};
+ghost use lib.ListN.{length};
+ghost use Rattle.bits.specs.Table.{tabulate};
+ghost use Rattle.tape.specs.Tape.{letterOf, wrongAt, synced, blockIn, blockMark, refusedCounts, countsOf};
+ghost use Rattle.tape.specs.Marks.{toldMark, marksIn, tallyIn, blocksIn};
+use block::BlockReading;
+use frame::Letter;
+
+// For each of the eight block positions, how many of its 64 blocks read so.
+pub struct Blocks {
+    pub clean: [u8; 8],
+    pub mended: [u8; 8],
+    pub bad: [u8; 8],
+}
+
+// Number 0 and the readings counted, or number 1 or 3 and zeros.
+pub struct Counted {
+    pub number: u8,
+    pub blocks: Blocks,
+}
+
+fn letter_of(f: usize) -> Letter
+    ensures { λ r. ⌜ r ≡ letterOf f ⌝ }
+{
+    if f < 64 { Letter::A } else { Letter::B }
+}
+
+// How many bits of a main frame's sync are wrong.
+fn wrong_at(sf: &[u8], f: usize) -> u8
+    requires { ⌜ (length (now sf) ≡ 5120) × (f < 128) ⌝ }
+    ensures { λ r. ⌜ r ≡ wrongAt (now (sf .entry)) f ⌝ }
+{
+    let a = 40 * f;
+    let e = a + 40;
+    frame::sync_errors(letter_of(f), &sf[a..e])
+}
+
+pub(crate) fn all_synced(sf: &[u8]) -> bool
+    requires { ⌜ length (now sf) ≡ 5120 ⌝ }
+    ensures { λ r. ⌜ r ≡ synced (now (sf .entry)) ⌝ }
+{
+    let mut f: usize = 0;
+    while f < 128 {
+        if frame::MOST_WRONG < wrong_at(sf, f) {
+            return false;
+        }
+        f += 1;
+    }
+    true
+}
+
+// The block in position p of frame number f.
+pub(crate) fn block_at(sf: &[u8], f: usize, p: usize) -> [u8; 77]
+    requires { ⌜ (length (now sf) ≡ 5120) × (f < 64) × (p < 8) ⌝ }
+    ensures { λ r. ⌜ r ≡ blockIn (now (sf .entry)) f p ⌝ }
+{
+    let a = 40 * (f + 64 * (p / 4));
+    let e = a + 40;
+    frame::block_of(&sf[a..e], p % 4)
+}
+
+// A block of a main frame is bits: the last case does not come.
+pub(crate) fn mark_of(reading: BlockReading) -> u8
+    ensures { λ r. ⌜ r ≡ toldMark reading ⌝ }
+{
+    match reading {
+        BlockReading::Clean => 0,
+        BlockReading::Mended(_) => 1,
+        BlockReading::Bad => 2,
+        BlockReading::OutOfRange => 2,
+    }
+}
+
+fn mark_at(sf: &[u8], f: usize, p: usize) -> u8
+    requires { ⌜ (length (now sf) ≡ 5120) × (f < 64) × (p < 8) ⌝ }
+    ensures { λ r. ⌜ r ≡ blockMark (now (sf .entry)) f p ⌝ }
+{
+    let read = block::read(block_at(sf, f, p));
+    let reading = read.reading;
+    mark_of(reading)
+}
+
+// The marks of all blocks, frame number by frame number.
+fn all_marks(sf: &[u8]) -> [u8; 512]
+    requires { ⌜ length (now sf) ≡ 5120 ⌝ }
+    ensures { λ r. ⌜ r ≡ marksIn (now (sf .entry)) ⌝ }
+{
+    let mut out = [0u8; 512];
+    let mut n: usize = 0;
+    while n < 512 {
+        out[n] = mark_at(sf, n / 8, n % 8);
+        n += 1;
+    }
+    out
+}
+
+// How many blocks of a position have a mark.
+fn tally(marks: [u8; 512], mark: u8, p: usize) -> u8
+    requires { ⌜ p < 8 ⌝ }
+    ensures { λ r. ⌜ r ≡ tallyIn marks mark p ⌝ }
+{
+    let mut sum: u8 = 0;
+    let mut f: usize = 0;
+    while f < 64 {
+        if marks[8 * f + p] == mark {
+            sum += 1;
+        }
+        f += 1;
+    }
+    sum
+}
+
+fn tallies(marks: [u8; 512], mark: u8) -> [u8; 8]
+    ensures { λ r. ⌜ r ≡ tabulate 8 (tallyIn marks mark) ⌝ }
+{
+    let mut out = [0u8; 8];
+    let mut p: usize = 0;
+    while p < 8 {
+        out[p] = tally(marks, mark, p);
+        p += 1;
+    }
+    out
+}
+
+pub(crate) fn gathered(marks: [u8; 512]) -> Blocks
+    ensures { λ r. ⌜ r ≡ blocksIn marks ⌝ }
+{
+    Blocks {
+        clean: tallies(marks, 0),
+        mended: tallies(marks, 1),
+        bad: tallies(marks, 2),
+    }
+}
+
+pub(crate) fn refused(number: u8) -> Counted
+    ensures { λ r. ⌜ r ≡ refusedCounts number ⌝ }
+{
+    let blocks = Blocks {
+        clean: [0u8; 8],
+        mended: [0u8; 8],
+        bad: [0u8; 8],
+    };
+    Counted { number, blocks }
+}
+
+// The readings of a superframe, counted without a state.
+pub fn counts(bytes: &[u8]) -> Counted
+    ensures { λ r. ⌜ r ≡ countsOf (now (bytes .entry)) ⌝ }
+{
+    if bytes.len() != 5120 {
+        return refused(1);
+    }
+    if !all_synced(bytes) {
+        return refused(3);
+    }
+    Counted {
+        number: 0,
+        blocks: gathered(all_marks(bytes)),
+    }
+}
