@@ -2,3 +2,4 @@ pub mod Table
 pub mod Digits
 pub mod Bits
 pub mod Answer
+pub mod Letters

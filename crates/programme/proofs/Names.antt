@@ -13,7 +13,8 @@ use lib.ListN.{length, getD, replicate, length-append, length-replicate, List·g
 use Rattle.bits.specs.Table.{every}
 use Rattle.bits.proofs.Table.{getD-within}
 use Rattle.bits.proofs.Every.{every-at}
-use Rattle.programme.specs.Names.{names, letters, padded, nameOf, goodWord}
+use Rattle.bits.specs.Letters.{letters}
+use Rattle.programme.specs.Names.{names, padded, nameOf, goodWord}
 
 pub name-at : (d : List ℕ) (t : ℕ) → t < 16 → getD (map padded names) t d ≡ nameOf t
 unfolding names nameOf

@@ -1,28 +1,24 @@
 -- The short name of each programme type (document 01, "Service groups"; the types are those of directive 3R1): eight characters, padded with spaces.
 --     names             the names of types 0 to 15, as the document prints them
---     letters text      the characters of a text, as numbers
 --     padded text       its characters, with spaces behind them up to eight
 --     nameOf t          the short name of type t
 --     goodWord cs       one to eight characters: capitals, '+', '-' and spaces, the first and the last a capital
 --     nameFor t         what looking type t up answers: its name, or number 2 for a type over 15
 use Prim.Native.Nat.{ℕ, _-_}
-use Prim.Native.Char.{Char, code}
-use Prim.Native.String.{String, [] as end, _∷_ as _then_}
+use Prim.Native.Char.{code}
+use Prim.Native.String.{String}
 use mathlib.Core.Bool.{Bool, cond, _&&_, _||_}
 use mathlib.Core.List.{List, [], _∷_, _++_}
 use lib.Dec.{ltb, leb, eqb}
 use lib.ListN.{length, getD, replicate}
 use Rattle.bits.specs.Table.{every}
+use Rattle.bits.specs.Letters.{letters}
 use Rattle.programme.specs.declared.Name.{Name}
 
 unfoldable pub names : List String
 names =
     "KEINE" ∷ "NACHRICH" ∷ "POLITIK" ∷ "SPEZWORT" ∷ "SPORT" ∷ "LERNEN" ∷ "HOER+LIT" ∷ "KULTUR"
     ∷ "WISSEN" ∷ "UNTERHAL" ∷ "POP" ∷ "ROCK" ∷ "U-MUSIK" ∷ "L-KLASS" ∷ "E-KLASS" ∷ "SPEZ MUS" ∷ []
-
-unfoldable pub letters : String → List ℕ
-letters end = []
-letters (c then text) = code c ∷ letters text
 
 unfoldable pub padded : String → List ℕ
 padded text = letters text ++ replicate (8 - length (letters text)) (code " ")

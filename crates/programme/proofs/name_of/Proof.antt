@@ -4,7 +4,8 @@ use mathlib.Core.List.{List}
 use Prim.Native.Nat.{ℕ, _<_}
 use native.Mathlib.Omega.{arith}
 use borrow.Author.Tests.{le-ltb, lt-ltb}
-use Rattle.programme.specs.Names.{nameFor, names, padded, letters}
+use Rattle.bits.specs.Letters.{letters}
+use Rattle.programme.specs.Names.{nameFor, names, padded}
 use Rattle.programme.proofs.Names.{name-at}
 use borrow.Author.Needs.{needs}
 use Rattle.programme.proofs.name_of.Statement.{statement}

@@ -1,0 +1,66 @@
+-- `listing::totals_of` is safe and ends. Assumes nothing.
+use Prim.Native.Nat.{_-_, _≤_}
+use borrow.Author.Needs.{needs}
+use Rattle.listing.proofs.totals_of.Statement.{statement}
+use Rattle.listing.proofs.totals_of.Tie as tie
+
+abbrev Inv-loop : tie.InvT-loop
+Inv-loop count totals₀ done₀ totals done = done ≤ count
+
+abbrev μ-loop : tie.MeasureT-loop
+μ-loop count totals₀ done₀ totals done = count - done
+
+none-requires : tie.Need-none-requires Inv-loop μ-loop
+none-requires c κs = search needs
+
+loop-holds : tie.Need-loop-holds Inv-loop μ-loop
+loop-holds c = search needs
+
+slice-aggregate-read-full : tie.Need-slice-aggregate-read-full Inv-loop μ-loop
+slice-aggregate-read-full c = search needs
+
+read-full-requires : tie.Need-read-full-requires Inv-loop μ-loop
+read-full-requires c κs = search needs
+
+slice-aggregate-step : tie.Need-slice-aggregate-step Inv-loop μ-loop
+slice-aggregate-step c = search needs
+
+step-requires : tie.Need-step-requires Inv-loop μ-loop
+step-requires c κs = search needs
+
+add-done : tie.Need-add-done Inv-loop μ-loop
+add-done c = search needs
+
+show-requires : tie.Need-show-requires Inv-loop μ-loop
+show-requires c κs = search needs
+
+loop-less : tie.Need-loop-less Inv-loop μ-loop
+loop-less c = search needs
+
+loop-again : tie.Need-loop-again Inv-loop μ-loop
+loop-again c = search needs
+
+wipe-requires : tie.Need-wipe-requires Inv-loop μ-loop
+wipe-requires c κs = search needs
+
+returns : tie.Need-returns Inv-loop μ-loop
+returns c = search needs
+
+pub totals-of-spec : {M : Type 1} → statement M
+totals-of-spec =
+    tie.close
+    (tie.spec
+    Inv-loop
+    μ-loop
+    none-requires
+    loop-holds
+    slice-aggregate-read-full
+    read-full-requires
+    slice-aggregate-step
+    step-requires
+    add-done
+    show-requires
+    loop-less
+    loop-again
+    wipe-requires
+    returns)

@@ -1,0 +1,4 @@
+pub mod Pages
+pub mod Spelled
+pub mod Decimal
+pub mod Unique

@@ -1,0 +1,89 @@
+// Text put into a lent buffer. Every function takes the place where it starts and returns the place behind what it put; what does not fit is
+// left out, and bytes before and behind stay as they were.
+ghost use mathlib.Core.Path.{_≡_};
+ghost use mathlib.Core.List.{[], _∷_};
+ghost use Rattle.text.specs.Page.{page, putText};
+ghost use Rattle.text.specs.Digits.{decimal, signed, row, hexDigit, hexByte, hexadecimal};
+
+pub fn put(out: &mut [u8], to: usize, byte: u8) -> usize
+    ensures { λ r. ⌜ page (now (out .exit)) r ≡ putText (page (now (out .entry)) to) (byte ∷ []) ⌝ }
+{
+    if to < out.len() {
+        out[to] = byte;
+        return to + 1;
+    }
+    to
+}
+
+pub fn put_all(out: &mut [u8], to: usize, bytes: &[u8]) -> usize
+    ensures { λ r. ⌜ page (now (out .exit)) r ≡ putText (page (now (out .entry)) to) (now (bytes .entry)) ⌝ }
+{
+    let mut end = to;
+    let mut i: usize = 0;
+    while i < bytes.len() {
+        end = put(out, end, bytes[i]);
+        i += 1;
+    }
+    end
+}
+
+// In decimal.
+pub fn put_number(out: &mut [u8], to: usize, n: u64) -> usize
+    ensures { λ r. ⌜ page (now (out .exit)) r ≡ putText (page (now (out .entry)) to) (decimal n) ⌝ }
+{
+    let mut digits = [0u8; 20];
+    let k = io::decimal(n, &mut digits);
+    put_all(out, to, &digits[..k])
+}
+
+// In decimal, a minus before a number below 0.
+pub fn put_signed(out: &mut [u8], to: usize, z: i16) -> usize
+    ensures { λ r. ⌜ page (now (out .exit)) r ≡ putText (page (now (out .entry)) to) (signed z) ⌝ }
+{
+    let far = sample::reach(z) as u64;
+    if z < 0 {
+        let behind = put(out, to, b'-');
+        return put_number(out, behind, far + 1);
+    }
+    put_number(out, to, far)
+}
+
+fn hex_digit(n: u8) -> u8
+    ensures { λ r. ⌜ r ≡ hexDigit n ⌝ }
+{
+    let low = n % 16;
+    if low < 10 { 48 + low } else { 87 + low }
+}
+
+// A digit for each entry, of one above 9 its last.
+pub fn put_row(out: &mut [u8], to: usize, entries: &[u8]) -> usize
+    ensures { λ r. ⌜ page (now (out .exit)) r ≡ putText (page (now (out .entry)) to) (row (now (entries .entry))) ⌝ }
+{
+    let mut end = to;
+    let mut i: usize = 0;
+    while i < entries.len() {
+        end = put(out, end, 48 + entries[i] % 10);
+        i += 1;
+    }
+    end
+}
+
+fn put_byte(out: &mut [u8], to: usize, byte: u8) -> usize
+    ensures { λ r. ⌜ page (now (out .exit)) r ≡ putText (page (now (out .entry)) to) (hexByte byte) ⌝ }
+{
+    let half = put(out, to, hex_digit(byte / 16));
+    put(out, half, hex_digit(byte))
+}
+
+// Two hexadecimal digits for each byte, in lower case.
+pub fn put_hex(out: &mut [u8], to: usize, bytes: &[u8]) -> usize
+    ensures { λ r. ⌜ page (now (out .exit)) r ≡ putText (page (now (out .entry)) to) (hexadecimal (now (bytes .entry))) ⌝ }
+{
+    let mut end = to;
+    let mut i: usize = 0;
+    while i < bytes.len() {
+        end = put_byte(out, end, bytes[i]);
+        i += 1;
+    }
+    end
+}
