@@ -1,4 +1,5 @@
 -- Sums of lists.
+--     sum-snoc      the sum with one element behind
 --     sum-more      the sum of one element more, as a loop adds it
 --     sum-all       the sum of all
 -- Assumes nothing.
@@ -11,7 +12,7 @@ use lib.ListN.{length, getD, take}
 use lib.Seq.{take-suc, take-all}
 use Rattle.tally.specs.Totals.{sumOf}
 
-sum-snoc : (l : List ℕ) (n : ℕ) → sumOf (l ++ (n ∷ [])) ≡ sumOf l + n
+pub sum-snoc : (l : List ℕ) (n : ℕ) → sumOf (l ++ (n ∷ [])) ≡ sumOf l + n
 unfolding sumOf
 sum-snoc [] n = omega arith
 sum-snoc (x ∷ l) n = let h = sum-snoc l n in omega (arith, h)

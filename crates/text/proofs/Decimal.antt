@@ -1,5 +1,6 @@
 -- Numbers as text, told two ways.
 --     fewest-decimal                    the fewest digits that hold a number are the number in decimal
+--     decimal-short                     a number less than 10 to a power has at most so many digits
 --     signed-below, signed-above        a number with a sign, by how far it reaches from 0
 -- Assumes nothing.
 use mathlib.Core.Path.{_≡_, refl, ap, ap₂, _∙_}
@@ -11,6 +12,7 @@ use native.Mathlib.Omega.{arith}
 use borrow.Author.Tests.{lt-ltb, le-ltb, ltb-true, ltb-false}
 use lib.Dec.{ltb}
 use lib.IntN.{ℤ, pos, negsuc}
+use lib.ListN.{length, length-append}
 use lib.Signed.{mag, ltZ}
 use Rattle.bits.proofs.Tests.{either-way}
 use Rattle.io.specs.Digits.{digits, glyph, Fewest}
@@ -64,6 +66,19 @@ few (suc (suc j)) n f =
 
 pub fewest-decimal : (k n : ℕ) → Fewest 10 1 n k → digits 10 k n ≡ decimal n
 fewest-decimal k n f = fewest-in (suc n) k n (few k n f) f
+
+short-in : (most k n : ℕ) → n < 10 ^ suc k → length (decimalIn most n) ≤ suc k
+unfolding decimalIn
+short-in zero k n h = omega arith
+short-in (suc most) zero n h = rw (lt-ltb n 10 h) (omega arith)
+short-in (suc most) (suc k) n h =
+    let q = pow-succ' 10 (suc k) in
+    let rest = short-in most k (n / 10) (omega (arith, q, h)) in
+    either-way (ltb n 10) (λ e. rw e (omega arith))
+    (λ e. rw (e, length-append (decimalIn most (n / 10)) ((48 + n % 10) ∷ [])) (omega (arith, rest)))
+
+pub decimal-short : (k n : ℕ) → n < 10 ^ suc k → length (decimal n) ≤ suc k
+decimal-short k n h = short-in (suc n) k n h
 
 pub signed-below : (z : ℤ) → ltZ z (pos 0) ≡ true → signed z ≡ 45 ∷ decimal (mag z + 1)
 signed-below (pos n) t = absurd (not-suc-le-zero (ltb-true n 0 t))

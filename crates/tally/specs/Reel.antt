@@ -1,0 +1,38 @@
+-- What the totals of a listing are, in document 01's words: "superframes counts the whole ones read, lost ones among them".
+--     isLost sf             1 for a superframe with a wrong sync, else 0
+--     blocksWith m sf       how many of its 512 blocks have mark m (0 clean, 1 mended, 2 bad); none of a lost one
+--     total f sfs           the sum of a number over some superframes
+--     counted sfs           all five totals of some superframes
+--     Superframes sfs       each is a whole superframe, by its length
+use Prim.Native.Nat.{ℕ, _+_}
+use mathlib.Core.Path.{_≡_}
+use mathlib.Core.Bool.{cond}
+use mathlib.Core.List.{List, [], _∷_}
+use lib.ListN.{length}
+use Rattle.superframe.specs.Tape.{synced, tallied}
+use Rattle.tally.specs.Totals.{sumOf}
+use Rattle.tally.specs.declared.Totals.{Totals}
+
+unfoldable pub isLost : List ℕ → ℕ
+isLost sf = cond (synced sf) 0 1
+
+unfoldable pub blocksWith : ℕ → List ℕ → ℕ
+blocksWith m sf = cond (synced sf) (sumOf (tallied m sf)) 0
+
+unfoldable pub total : (List ℕ → ℕ) → List (List ℕ) → ℕ
+total f [] = 0
+total f (sf ∷ sfs) = f sf + total f sfs
+
+unfoldable pub counted : List (List ℕ) → Totals
+counted sfs =
+    record {
+      superframes = length sfs;
+      lost = total isLost sfs;
+      clean = total (blocksWith 0) sfs;
+      mended = total (blocksWith 1) sfs;
+      bad = total (blocksWith 2) sfs;
+    }
+
+unfoldable pub Superframes : List (List ℕ) → Type 0
+Superframes [] = Unit {0}
+Superframes (sf ∷ sfs) = (length sf ≡ 5120) × Superframes sfs
