@@ -16,12 +16,12 @@ fn write(line: &[u8], at: usize, out: &mut [u8], to: usize) -> usize {
     let codes = [first.value, second.value, third.value, fourth.value];
     let written = block::write(codes, [left.value, right.value]);
     let bits = written.bits;
-    let end = print::put_number(out, to, written.number as u64);
+    let end = text::put_number(out, to, written.number as u64);
     if written.number != 0 {
         return end;
     }
-    let end = print::put(out, end, b' ');
-    print::put_row(out, end, &bits)
+    let end = text::put(out, end, b' ');
+    text::put_row(out, end, &bits)
 }
 
 // The number that stands for a reading behind number 0: clean, mended with 1 or 2, bad; 4 where the bits were out of range.
@@ -45,12 +45,12 @@ fn read(line: &[u8], at: usize, out: &mut [u8], to: usize) -> usize {
     let stood = answer.bits;
     let number = told(reading);
     if number == 4 {
-        return print::put(out, to, b'2');
+        return text::put(out, to, b'2');
     }
-    let end = print::put(out, to, b'0');
+    let end = text::put(out, to, b'0');
     let end = print::put_next(out, end, number as u64);
-    let end = print::put(out, end, b' ');
-    print::put_row(out, end, &stood)
+    let end = text::put(out, end, b' ');
+    text::put_row(out, end, &stood)
 }
 
 fn codes(line: &[u8], at: usize, out: &mut [u8], to: usize) -> usize {
@@ -62,7 +62,7 @@ fn codes(line: &[u8], at: usize, out: &mut [u8], to: usize) -> usize {
     let answer = block::codes(bits);
     let codes = answer.codes;
     let extra = answer.extra;
-    let end = print::put_number(out, to, answer.number as u64);
+    let end = text::put_number(out, to, answer.number as u64);
     if answer.number != 0 {
         return end;
     }

@@ -29,8 +29,8 @@ fn letter_of(is_b: bool) -> Letter {
 }
 
 fn put_block(out: &mut [u8], to: usize, bits: &[u8; 77]) -> usize {
-    let behind = print::put(out, to, b' ');
-    print::put_row(out, behind, bits)
+    let behind = text::put(out, to, b' ');
+    text::put_row(out, behind, bits)
 }
 
 fn put_read(read: FrameRead, out: &mut [u8], to: usize) -> usize {
@@ -38,7 +38,7 @@ fn put_read(read: FrameRead, out: &mut [u8], to: usize) -> usize {
     let second = read.second;
     let third = read.third;
     let fourth = read.fourth;
-    let end = print::put_number(out, to, read.number as u64);
+    let end = text::put_number(out, to, read.number as u64);
     if read.number != 0 {
         return end;
     }
@@ -69,12 +69,12 @@ fn read(line: &[u8], at: usize, out: &mut [u8], to: usize) -> usize {
 }
 
 fn put_written(number: u8, lent: &[u8], out: &mut [u8], to: usize) -> usize {
-    let end = print::put_number(out, to, number as u64);
-    let end = print::put(out, end, b' ');
+    let end = text::put_number(out, to, number as u64);
+    let end = text::put(out, end, b' ');
     if lent.len() == 0 {
-        return print::put(out, end, b'-');
+        return text::put(out, end, b'-');
     }
-    print::put_hex(out, end, lent)
+    text::put_hex(out, end, lent)
 }
 
 // The four blocks, and the place behind them.

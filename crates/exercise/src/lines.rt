@@ -1,7 +1,6 @@
 // A line, answered.
 use crate::blocks;
 use crate::frames;
-use crate::print;
 use crate::programmes;
 use crate::reels;
 use crate::samples;
@@ -39,11 +38,11 @@ fn called(line: &[u8], out: &mut [u8], to: usize) -> usize {
 
 // The line with its answer and a line end, and how long that is.
 pub(crate) fn answer(line: &[u8], out: &mut [u8]) -> usize {
-    let echoed = print::put_all(out, 0, line);
-    let to = print::put_all(out, echoed, b" = ");
+    let echoed = text::put_all(out, 0, line);
+    let to = text::put_all(out, echoed, b" = ");
     let end = called(line, out, to);
     if end == 0 {
-        return print::put_all(out, to, b"?\n");
+        return text::put_all(out, to, b"?\n");
     }
-    print::put(out, end, b'\n')
+    text::put(out, end, b'\n')
 }

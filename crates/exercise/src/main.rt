@@ -31,7 +31,7 @@ fn hold(line: &mut [u8], held: Held, byte: u8) -> Held {
         };
     }
     io::write_all(1, line);
-    print::put(line, 0, byte);
+    text::put(line, 0, byte);
     Held {
         count: 1,
         spilled: true,

@@ -11,12 +11,12 @@ fn read(line: &[u8], at: usize, out: &mut [u8], to: usize) -> usize {
     }
     match programme::read(byte.value) {
         ByteRead::Programme { kind, music, mode } => {
-            let end = print::put(out, to, b'0');
+            let end = text::put(out, to, b'0');
             let end = print::put_next(out, end, kind as u64);
             let end = print::put_next(out, end, music as u64);
             print::put_next(out, end, mode as u64)
         }
-        ByteRead::Odd => print::put(out, to, b'6'),
+        ByteRead::Odd => text::put(out, to, b'6'),
     }
 }
 
@@ -29,10 +29,10 @@ fn write(line: &[u8], at: usize, out: &mut [u8], to: usize) -> usize {
     }
     match programme::write(kind.value, music.value, mode.value) {
         ByteWritten::Byte(byte) => {
-            let end = print::put(out, to, b'0');
+            let end = text::put(out, to, b'0');
             print::put_next(out, end, byte as u64)
         }
-        ByteWritten::OutOfRange => print::put(out, to, b'2'),
+        ByteWritten::OutOfRange => text::put(out, to, b'2'),
     }
 }
 
@@ -43,12 +43,12 @@ fn name(line: &[u8], at: usize, out: &mut [u8], to: usize) -> usize {
     }
     let name = programme::name_of(kind.value);
     let letters = name.letters;
-    let end = print::put_number(out, to, name.number as u64);
+    let end = text::put_number(out, to, name.number as u64);
     if name.number != 0 {
         return end;
     }
-    let end = print::put(out, end, b' ');
-    print::put_hex(out, end, &letters)
+    let end = text::put(out, end, b' ');
+    text::put_hex(out, end, &letters)
 }
 
 // The end of the answer, or 0 where the line is none of these calls.

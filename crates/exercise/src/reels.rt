@@ -7,11 +7,11 @@ use reel::RunCount;
 fn put_header(bytes: &[u8], out: &mut [u8], to: usize) -> usize {
     match reel::read_header(bytes) {
         HeaderRead::Reel { count, offset } => {
-            let end = print::put(out, to, b'0');
+            let end = text::put(out, to, b'0');
             let end = print::put_next(out, end, count as u64);
             print::put_next(out, end, offset as u64)
         }
-        HeaderRead::NoHeader => print::put(out, to, b'8'),
+        HeaderRead::NoHeader => text::put(out, to, b'8'),
     }
 }
 
@@ -36,10 +36,10 @@ fn header(line: &[u8], at: usize, out: &mut [u8], to: usize) -> usize {
 fn put_count(run: &[u8], out: &mut [u8], to: usize) -> usize {
     match reel::run_count(run) {
         RunCount::Superframes(count) => {
-            let end = print::put(out, to, b'0');
+            let end = text::put(out, to, b'0');
             print::put_next(out, end, count as u64)
         }
-        RunCount::NoRun => print::put(out, to, b'1'),
+        RunCount::NoRun => text::put(out, to, b'1'),
     }
 }
 
@@ -63,7 +63,7 @@ fn mark(run: &mut [u8]) {
 }
 
 fn put_part(run: &[u8], k: usize, out: &mut [u8], to: usize) -> usize {
-    let end = print::put_number(out, to, reel::superframe_number_of(run, k) as u64);
+    let end = text::put_number(out, to, reel::superframe_number_of(run, k) as u64);
     let part = reel::superframe_of(run, k);
     let end = print::put_next(out, end, part.len() as u64);
     if part.len() == 0 {

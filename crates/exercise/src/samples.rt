@@ -51,10 +51,10 @@ fn single(way: Way, line: &[u8], at: usize, out: &mut [u8], to: usize) -> usize 
     }
     let answer = asked(way, n.value, factor.value);
     if answer.accepted {
-        let end = print::put(out, to, b'0');
+        let end = text::put(out, to, b'0');
         return print::put_signed(out, end, answer.value);
     }
-    print::put(out, to, b'2')
+    text::put(out, to, b'2')
 }
 
 // What an answer adds to a sum: its number + 32768, or 65538 for number 2.
@@ -93,7 +93,7 @@ fn swept(way: Way, line: &[u8], at: usize, out: &mut [u8], to: usize) -> usize {
         return 0;
     }
     let sum = sum_of(way, factor.value, start, end);
-    let end = print::put(out, to, b'0');
+    let end = text::put(out, to, b'0');
     print::put_next(out, end, sum)
 }
 
@@ -120,10 +120,10 @@ fn read_samples(line: &[u8], at: usize, samples: &mut [i16]) -> usize {
 fn chosen(samples: &[i16], out: &mut [u8], to: usize) -> usize {
     match sample::factor_of(samples) {
         Chosen::Factor(factor) => {
-            let end = print::put(out, to, b'0');
+            let end = text::put(out, to, b'0');
             print::put_next(out, end, factor as u64)
         }
-        Chosen::Refused => print::put(out, to, b'1'),
+        Chosen::Refused => text::put(out, to, b'1'),
     }
 }
 

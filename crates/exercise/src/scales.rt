@@ -11,12 +11,12 @@ fn write(line: &[u8], at: usize, out: &mut [u8], to: usize) -> usize {
     }
     let written = scale::write(left.value, right.value);
     let bits = written.bits;
-    let end = print::put_number(out, to, written.number as u64);
+    let end = text::put_number(out, to, written.number as u64);
     if written.number != 0 {
         return end;
     }
-    let end = print::put(out, end, b' ');
-    print::put_row(out, end, &bits)
+    let end = text::put(out, end, b' ');
+    text::put_row(out, end, &bits)
 }
 
 fn read(line: &[u8], at: usize, out: &mut [u8], to: usize) -> usize {
@@ -27,12 +27,12 @@ fn read(line: &[u8], at: usize, out: &mut [u8], to: usize) -> usize {
     }
     match scale::read(bits) {
         Reading::Factors(left, right) => {
-            let end = print::put(out, to, b'0');
+            let end = text::put(out, to, b'0');
             let end = print::put_next(out, end, left as u64);
             print::put_next(out, end, right as u64)
         }
-        Reading::Unreadable => print::put(out, to, b'5'),
-        Reading::OutOfRange => print::put(out, to, b'2'),
+        Reading::Unreadable => text::put(out, to, b'5'),
+        Reading::OutOfRange => text::put(out, to, b'2'),
     }
 }
 
@@ -43,7 +43,7 @@ fn extra(line: &[u8], at: usize, out: &mut [u8], to: usize) -> usize {
         return 0;
     }
     let answer = scale::read_extra(bits);
-    let end = print::put_number(out, to, answer.number as u64);
+    let end = text::put_number(out, to, answer.number as u64);
     if answer.number == 2 {
         return end;
     }

@@ -1,13 +1,6 @@
 // Numbers of 16 bits with a sign, and numbers without: 32768 more than each.
 ghost use Prim.Native.Nat.{_<_};
 
-// How far a number reaches from 0: n for n and for -(n + 1).
-fn reach(z: i16) -> u64
-    ensures { λ r. ⌜ r < 32768 ⌝ }
-{
-    if z < 0 { (-1 - z) as u64 } else { z as u64 }
-}
-
 // -(n + 1)
 pub(crate) fn below(n: u64) -> i16
     requires { ⌜ n < 32768 ⌝ }
@@ -24,7 +17,7 @@ pub(crate) fn above(n: u64) -> i16
 pub(crate) fn shifted(z: i16) -> u64
     ensures { λ r. ⌜ r < 65536 ⌝ }
 {
-    let n = reach(z);
+    let n = sample::reach(z) as u64;
     if z < 0 { 32767 - n } else { 32768 + n }
 }
 

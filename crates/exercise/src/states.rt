@@ -35,18 +35,19 @@ fn read_state(line: &[u8], at: usize) -> Read {
 
 // A byte for each channel.
 fn put_channels(out: &mut [u8], to: usize, bytes: &[u8; 32]) -> usize {
-    let behind = print::put(out, to, b' ');
-    print::put_hex(out, behind, bytes)
+    let behind = text::put(out, to, b' ');
+    text::put_hex(out, behind, bytes)
 }
 
 fn put_small(out: &mut [u8], to: usize, byte: u8) -> usize {
-    let behind = print::put(out, to, b' ');
-    print::put_byte(out, behind, byte)
+    let behind = text::put(out, to, b' ');
+    let one = [byte];
+    text::put_hex(out, behind, &one)
 }
 
 fn put_labels(out: &mut [u8], to: usize, labels: &[u8; 256]) -> usize {
-    let behind = print::put(out, to, b' ');
-    print::put_hex(out, behind, labels)
+    let behind = text::put(out, to, b' ');
+    text::put_hex(out, behind, labels)
 }
 
 fn put_state(out: &mut [u8], to: usize, state: State) -> usize {
@@ -66,7 +67,7 @@ fn fresh(line: &[u8], at: usize, out: &mut [u8], to: usize) -> usize {
     if !words::ended(line, at) {
         return 0;
     }
-    let end = print::put(out, to, b'0');
+    let end = text::put(out, to, b'0');
     put_state(out, end, State::fresh())
 }
 
@@ -78,7 +79,7 @@ fn lose(line: &[u8], at: usize, out: &mut [u8], to: usize) -> usize {
     let state = read.state;
     let lost = state.lose();
     let next = lost.next;
-    let end = print::put_number(out, to, lost.number as u64);
+    let end = text::put_number(out, to, lost.number as u64);
     put_state(out, end, next)
 }
 
@@ -86,7 +87,7 @@ fn put_given(out: &mut [u8], to: usize, complete: bool, labels: &[u8; 256]) -> u
     if complete {
         return put_labels(out, to, labels);
     }
-    print::put_all(out, to, b" -")
+    text::put_all(out, to, b" -")
 }
 
 fn serve(state: State, six: [u8; 6], sync: [u8; 16], out: &mut [u8], to: usize) -> usize {
@@ -94,10 +95,10 @@ fn serve(state: State, six: [u8; 6], sync: [u8; 16], out: &mut [u8], to: usize) 
     let labels = served.labels;
     let next = served.next;
     if served.number == 2 {
-        let end = print::put(out, to, b'2');
+        let end = text::put(out, to, b'2');
         return put_state(out, end, next);
     }
-    let end = print::put(out, to, b'0');
+    let end = text::put(out, to, b'0');
     let end = print::put_next(out, end, served.position as u64);
     let end = print::put_next(out, end, served.number as u64);
     let end = put_given(out, end, served.complete, &labels);
