@@ -1,5 +1,4 @@
 // The calls on blocks.
-use crate::print;
 use crate::words;
 use block::BlockReading;
 
@@ -48,7 +47,7 @@ fn read(line: &[u8], at: usize, out: &mut [u8], to: usize) -> usize {
         return text::put(out, to, b'2');
     }
     let end = text::put(out, to, b'0');
-    let end = print::put_next(out, end, number as u64);
+    let end = text::put_next(out, end, number as u64);
     let end = text::put(out, end, b' ');
     text::put_row(out, end, &stood)
 }
@@ -66,12 +65,12 @@ fn codes(line: &[u8], at: usize, out: &mut [u8], to: usize) -> usize {
     if answer.number != 0 {
         return end;
     }
-    let end = print::put_signed(out, end, codes[0]);
-    let end = print::put_signed(out, end, codes[1]);
-    let end = print::put_signed(out, end, codes[2]);
-    let end = print::put_signed(out, end, codes[3]);
-    let end = print::put_next(out, end, words::wide(extra[0]));
-    print::put_next(out, end, words::wide(extra[1]))
+    let end = text::put_next_signed(out, end, codes[0]);
+    let end = text::put_next_signed(out, end, codes[1]);
+    let end = text::put_next_signed(out, end, codes[2]);
+    let end = text::put_next_signed(out, end, codes[3]);
+    let end = text::put_next(out, end, words::wide(extra[0]));
+    text::put_next(out, end, words::wide(extra[1]))
 }
 
 // The end of the answer, or 0 where the line is none of these calls.

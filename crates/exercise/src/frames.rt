@@ -1,5 +1,4 @@
 // The calls on main frames.
-use crate::print;
 use crate::words;
 use frame::FrameRead;
 use frame::Letter;
@@ -42,7 +41,7 @@ fn put_read(read: FrameRead, out: &mut [u8], to: usize) -> usize {
     if read.number != 0 {
         return end;
     }
-    let end = print::put_next(out, end, read.service as u64);
+    let end = text::put_next(out, end, read.service as u64);
     let end = put_block(out, end, &first);
     let end = put_block(out, end, &second);
     let end = put_block(out, end, &third);

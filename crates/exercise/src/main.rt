@@ -3,7 +3,6 @@
 mod blocks; // blocks.rt: bwrite, bread, bcodes
 mod frames; // frames.rt: fwrite, fread
 mod lines; // lines.rt: a line answered by what it calls
-mod print; // print.rt: text put into a lent buffer
 mod programmes; // programmes.rt: pread, pwrite, name
 mod reels; // reels.rt: header, run, part
 mod samples; // samples.rt: code, sample, codes, samples, factor

@@ -1,5 +1,4 @@
 // The calls on programme bytes and names.
-use crate::print;
 use crate::words;
 use programme::ByteRead;
 use programme::ByteWritten;
@@ -12,9 +11,9 @@ fn read(line: &[u8], at: usize, out: &mut [u8], to: usize) -> usize {
     match programme::read(byte.value) {
         ByteRead::Programme { kind, music, mode } => {
             let end = text::put(out, to, b'0');
-            let end = print::put_next(out, end, kind as u64);
-            let end = print::put_next(out, end, music as u64);
-            print::put_next(out, end, mode as u64)
+            let end = text::put_next(out, end, kind as u64);
+            let end = text::put_next(out, end, music as u64);
+            text::put_next(out, end, mode as u64)
         }
         ByteRead::Odd => text::put(out, to, b'6'),
     }
@@ -30,7 +29,7 @@ fn write(line: &[u8], at: usize, out: &mut [u8], to: usize) -> usize {
     match programme::write(kind.value, music.value, mode.value) {
         ByteWritten::Byte(byte) => {
             let end = text::put(out, to, b'0');
-            print::put_next(out, end, byte as u64)
+            text::put_next(out, end, byte as u64)
         }
         ByteWritten::OutOfRange => text::put(out, to, b'2'),
     }

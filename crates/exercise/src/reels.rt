@@ -1,5 +1,4 @@
 // The calls on headers and runs.
-use crate::print;
 use crate::words;
 use reel::HeaderRead;
 use reel::RunCount;
@@ -8,8 +7,8 @@ fn put_header(bytes: &[u8], out: &mut [u8], to: usize) -> usize {
     match reel::read_header(bytes) {
         HeaderRead::Reel { count, offset } => {
             let end = text::put(out, to, b'0');
-            let end = print::put_next(out, end, count as u64);
-            print::put_next(out, end, offset as u64)
+            let end = text::put_next(out, end, count as u64);
+            text::put_next(out, end, offset as u64)
         }
         HeaderRead::NoHeader => text::put(out, to, b'8'),
     }
@@ -37,7 +36,7 @@ fn put_count(run: &[u8], out: &mut [u8], to: usize) -> usize {
     match reel::run_count(run) {
         RunCount::Superframes(count) => {
             let end = text::put(out, to, b'0');
-            print::put_next(out, end, count as u64)
+            text::put_next(out, end, count as u64)
         }
         RunCount::NoRun => text::put(out, to, b'1'),
     }
@@ -65,11 +64,11 @@ fn mark(run: &mut [u8]) {
 fn put_part(run: &[u8], k: usize, out: &mut [u8], to: usize) -> usize {
     let end = text::put_number(out, to, reel::superframe_number_of(run, k) as u64);
     let part = reel::superframe_of(run, k);
-    let end = print::put_next(out, end, part.len() as u64);
+    let end = text::put_next(out, end, part.len() as u64);
     if part.len() == 0 {
         return end;
     }
-    print::put_next(out, end, words::wide(part[0]) * 80)
+    text::put_next(out, end, words::wide(part[0]) * 80)
 }
 
 fn put_marked(run: &mut [u8], k: usize, out: &mut [u8], to: usize) -> usize {

@@ -1,6 +1,5 @@
 // The calls on samples, codes and factors.
 ghost use Prim.Native.Nat.{_<_};
-use crate::print;
 use crate::signs;
 use crate::words;
 use sample::Chosen;
@@ -52,7 +51,7 @@ fn single(way: Way, line: &[u8], at: usize, out: &mut [u8], to: usize) -> usize 
     let answer = asked(way, n.value, factor.value);
     if answer.accepted {
         let end = text::put(out, to, b'0');
-        return print::put_signed(out, end, answer.value);
+        return text::put_next_signed(out, end, answer.value);
     }
     text::put(out, to, b'2')
 }
@@ -94,7 +93,7 @@ fn swept(way: Way, line: &[u8], at: usize, out: &mut [u8], to: usize) -> usize {
     }
     let sum = sum_of(way, factor.value, start, end);
     let end = text::put(out, to, b'0');
-    print::put_next(out, end, sum)
+    text::put_next(out, end, sum)
 }
 
 // How many samples were read, 0 where one was none.
@@ -121,7 +120,7 @@ fn chosen(samples: &[i16], out: &mut [u8], to: usize) -> usize {
     match sample::factor_of(samples) {
         Chosen::Factor(factor) => {
             let end = text::put(out, to, b'0');
-            print::put_next(out, end, factor as u64)
+            text::put_next(out, end, factor as u64)
         }
         Chosen::Refused => text::put(out, to, b'1'),
     }

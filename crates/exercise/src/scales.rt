@@ -1,5 +1,4 @@
 // The calls on scale words and extra bits.
-use crate::print;
 use crate::words;
 use scale::Reading;
 
@@ -28,8 +27,8 @@ fn read(line: &[u8], at: usize, out: &mut [u8], to: usize) -> usize {
     match scale::read(bits) {
         Reading::Factors(left, right) => {
             let end = text::put(out, to, b'0');
-            let end = print::put_next(out, end, left as u64);
-            print::put_next(out, end, right as u64)
+            let end = text::put_next(out, end, left as u64);
+            text::put_next(out, end, right as u64)
         }
         Reading::Unreadable => text::put(out, to, b'5'),
         Reading::OutOfRange => text::put(out, to, b'2'),
@@ -48,11 +47,11 @@ fn extra(line: &[u8], at: usize, out: &mut [u8], to: usize) -> usize {
         return end;
     }
     if answer.number != 0 {
-        return print::put_next(out, end, answer.word as u64);
+        return text::put_next(out, end, answer.word as u64);
     }
-    let end = print::put_next(out, end, answer.left as u64);
-    let end = print::put_next(out, end, answer.right as u64);
-    print::put_next(out, end, answer.word as u64)
+    let end = text::put_next(out, end, answer.left as u64);
+    let end = text::put_next(out, end, answer.right as u64);
+    text::put_next(out, end, answer.word as u64)
 }
 
 // The end of the answer, or 0 where the line is none of these calls.

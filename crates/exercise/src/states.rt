@@ -1,5 +1,4 @@
 // The calls on the reader's state.
-use crate::print;
 use crate::words;
 use superframe::State;
 
@@ -99,8 +98,8 @@ fn serve(state: State, six: [u8; 6], sync: [u8; 16], out: &mut [u8], to: usize) 
         return put_state(out, end, next);
     }
     let end = text::put(out, to, b'0');
-    let end = print::put_next(out, end, served.position as u64);
-    let end = print::put_next(out, end, served.number as u64);
+    let end = text::put_next(out, end, served.position as u64);
+    let end = text::put_next(out, end, served.number as u64);
     let end = put_given(out, end, served.complete, &labels);
     put_state(out, end, next)
 }

@@ -31,7 +31,7 @@ fn read_over(piece: &mut [u8], most: u32) -> u32
 }
 
 // Reads on past so many bytes, without holding them, or to the end of input.
-pub fn skip(count: u32) {
+fn skip(count: u32) {
     let mut left = count;
     while 0 < left {
         let mut piece = io::buffer();
@@ -40,5 +40,12 @@ pub fn skip(count: u32) {
             break;
         }
         left -= got;
+    }
+}
+
+// Behind the 16 bytes of a header, reads on to the first superframe.
+pub fn skip_to(offset: u32) {
+    if 16 < offset {
+        skip(offset - 16);
     }
 }

@@ -64,9 +64,7 @@ fn read(header: HeaderRead) -> Totals {
             if count == 0 {
                 return Totals::none();
             }
-            if 16 < offset {
-                input::skip(offset - 16);
-            }
+            input::skip_to(offset);
             totals_of(count)
         }
     }

@@ -6,9 +6,12 @@ use Rattle.bits.specs.Answer.{Answer}
 use Rattle.bits.proofs.Unique.{same}
 use Rattle.text.specs.Page.{Page, page, putText}
 use Rattle.text.proofs.Unique.{put-unique}
-use Rattle.tally.specs.Totals.{noTotals, stepped}
+use Rattle.tally.specs.Totals.{sumOf, noTotals, stepped}
 use Rattle.tally.specs.Listing.{listing}
 use Rattle.tally.specs.declared.Totals.{Totals}
+
+pub sum-unique : (r r' : ℕ) (l : List ℕ) → r ≡ sumOf l → r' ≡ sumOf l → r ≡ r'
+sum-unique r r' l = same
 
 pub none-unique : (r r' : Totals) → r ≡ noTotals → r' ≡ noTotals → r ≡ r'
 none-unique r r' = same

@@ -4,21 +4,20 @@
 --     sixLines promised t       the listing of a reel whose header is good
 --     listing a t               the whole listing, by what reading the header answered: its number alone where that refused
 use Prim.Native.Nat.{ℕ}
-use Prim.Native.Char.{code}
 use mathlib.Core.Bool.{cond}
 use mathlib.Core.List.{List, [], _∷_, _++_}
 use lib.Dec.{eqb}
 use lib.ListN.{getD}
 use Rattle.bits.specs.Answer.{Answer}
 use Rattle.bits.specs.Letters.{letters}
-use Rattle.text.specs.Digits.{decimal}
+use Rattle.text.specs.Digits.{blank, decimal}
 use Rattle.tally.specs.declared.Totals.{Totals}
 
 abbrev pub newline : ℕ
 newline = 10
 
 unfoldable pub line : List ℕ → ℕ → List ℕ
-line word n = word ++ ((code " " ∷ []) ++ (decimal n ++ (newline ∷ [])))
+line word n = word ++ ((blank ∷ []) ++ (decimal n ++ (newline ∷ [])))
 
 unfoldable pub ending : ℕ → ℕ → List ℕ
 ending promised read = cond (eqb promised read) (letters "end ok") (letters "end short") ++ (newline ∷ [])

@@ -33,7 +33,8 @@ fn wide(byte: u8) -> u64
     byte as u64
 }
 
-fn sum(counts: [u8; 8]) -> u64
+// Of the counts of the eight block positions.
+pub fn sum(counts: [u8; 8]) -> u64
     ensures { λ r. ⌜ r ≡ sumOf counts ⌝ }
 {
     let mut sum: u64 = 0;

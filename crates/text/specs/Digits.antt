@@ -1,4 +1,5 @@
 -- Numbers as text, in ASCII.
+--     blank                 a space
 --     decimal n             a number in decimal, with no zero in front
 --     signed z              the same with a minus before a number below 0
 --     spelled f l           the texts that a rule gives for each number of a list, one behind the other
@@ -6,11 +7,15 @@
 --     hexDigit n            the last hexadecimal digit of a number, in lower case
 --     hexByte x             the two hexadecimal digits of a byte
 --     hexadecimal bytes     those of each byte
+use Prim.Native.Char.{code}
 use Prim.Native.Nat.{ℕ, zero, suc, _+_, _/_, _%_}
 use mathlib.Core.Bool.{cond}
 use mathlib.Core.List.{List, [], _∷_, _++_}
 use lib.Dec.{ltb}
 use lib.IntN.{ℤ, pos, negsuc}
+
+abbrev pub blank : ℕ
+blank = code " "
 
 -- at most k digits
 unfoldable pub decimalIn : ℕ → ℕ → List ℕ

@@ -3,7 +3,7 @@
 ghost use mathlib.Core.Path.{_≡_};
 ghost use mathlib.Core.List.{[], _∷_};
 ghost use Rattle.text.specs.Page.{page, putText};
-ghost use Rattle.text.specs.Digits.{decimal, signed, row, hexDigit, hexByte, hexadecimal};
+ghost use Rattle.text.specs.Digits.{blank, decimal, signed, row, hexDigit, hexByte, hexadecimal};
 
 pub fn put(out: &mut [u8], to: usize, byte: u8) -> usize
     ensures { λ r. ⌜ page (now (out .exit)) r ≡ putText (page (now (out .entry)) to) (byte ∷ []) ⌝ }
@@ -46,6 +46,22 @@ pub fn put_signed(out: &mut [u8], to: usize, z: i16) -> usize
         return put_number(out, behind, far + 1);
     }
     put_number(out, to, far)
+}
+
+// A blank, and a number in decimal.
+pub fn put_next(out: &mut [u8], to: usize, n: u64) -> usize
+    ensures { λ r. ⌜ page (now (out .exit)) r ≡ putText (page (now (out .entry)) to) (blank ∷ decimal n) ⌝ }
+{
+    let behind = put(out, to, b' ');
+    put_number(out, behind, n)
+}
+
+// A blank, and a number with its sign.
+pub fn put_next_signed(out: &mut [u8], to: usize, z: i16) -> usize
+    ensures { λ r. ⌜ page (now (out .exit)) r ≡ putText (page (now (out .entry)) to) (blank ∷ signed z) ⌝ }
+{
+    let behind = put(out, to, b' ');
+    put_signed(out, behind, z)
 }
 
 fn hex_digit(n: u8) -> u8
