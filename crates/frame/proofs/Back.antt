@@ -24,14 +24,13 @@ use Rattle.bits.specs.Digits.{Below}
 use Rattle.bits.specs.Bits.{bitAt, bitsOf, bytesOf, areBits}
 use Rattle.bits.proofs.Table.{getD-tab, tab-ext, tab-getD}
 use Rattle.bits.proofs.Tests.{both-true}
-use Rattle.bits.proofs.Bits.{length-bitsOf, length-bytesOf, bytes-back, bits-back, bits-below, below-bits}
+use Rattle.bits.proofs.Bits.{length-bitsOf, length-bytesOf, bytes-back, bits-back, bits-below, below-bits, bitsOf-at, bitAt-below, below-bitsOf}
 use Rattle.frame.specs.Frame.{syncWord, serviceIn, interleave, block, frameBits, frameBytes, deinterleave, blockAt, bitAtPlace}
 use Rattle.frame.specs.Read.{wrongSync, serviceRead, blockOf, blocksIn, nothing, found, blocksOf, readFrame, serviceCleared}
 use Rattle.frame.specs.Write.{goodValues, Written}
 use Rattle.frame.specs.declared.FrameRead.{FrameRead}
 use Rattle.frame.specs.declared.Letter.{Letter}
 use Rattle.frame.specs.declared.Letter.the-variants.{A, B}
-use Rattle.frame.proofs.Rows.{bitsOf-at, bitAt-below, below-bitsOf}
 use Rattle.frame.proofs.Interleave.{below-interleave}
 use Rattle.frame.proofs.Parts.{below-parts}
 use Rattle.frame.proofs.Sync.{length-sync, below-sync, sync-matches, sync-right}

@@ -27,7 +27,7 @@ use Rattle.service.specs.Sync.{sync1, sync2, agree, kindOf, isOpen, drop
 use Rattle.service.specs.Service.{inRange, accepts, stepBy, served, searchingService}
 use Rattle.service.specs.declared.Service.{Service}
 use Rattle.service.specs.declared.sync.Kind.the-variants.{First, Second, Neither}
-use Rattle.service.proofs.Tests.{both, both-left, both-right}
+use Rattle.bits.proofs.Tests.{both, both-left, both-right}
 use Rattle.bits.proofs.Bits.{below-all}
 use Rattle.service.proofs.Syncs.{disagree}
 
