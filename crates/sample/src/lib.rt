@@ -27,7 +27,7 @@ pub enum Chosen {
 }
 
 // How far a number reaches from 0: n for n and for -(n + 1). It lies from -h to h - 1 exactly where this is less than h.
-fn reach(z: i16) -> u16
+pub fn reach(z: i16) -> u16
     ensures { λ r. ⌜ r ≡ mag z ⌝ }
 {
     if z < 0 { (-1 - z) as u16 } else { z as u16 }
