@@ -1,2 +1,2 @@
 -- Laws of rows of bits, which stand in `bits`.
-pub use Rattle.bits.proofs.Bits.{bit-below, bitsOf-at, below-bitsOf}
+pub use Rattle.bits.proofs.Bits.{bit-below, bitAt-below, bitsOf-at, below-bitsOf}
