@@ -1,4 +1,6 @@
 -- All of the bench cases hold: one statement over the table. The readings and check bits are computed where their definitions stand.
+--     cleared-is        the cleared word, bit by bit
+--     bench-holds       THE STATEMENT
 -- Assumes nothing.
 use mathlib.Core.Path.{_≡_, refl, ap, _∙_}
 use mathlib.Core.List.{List, [], _∷_, _++_}

@@ -1,9 +1,11 @@
 -- The bench cases of document 01 that it marks with a star, in one table.
 --     row text          a row of bits as the document prints it
 --     ones-at n ks      n bits, with ones in the places ks, counted from 1 as the document does
+--     isIn k ks         1 where k is one of ks, else 0
 --     withoutOnes n w   the word w with its first n ones cleared
 --     Case              what a case says, with what is given and what comes out
 --     Holds c           that it is so, of the definitions that the promises cite
+--     wordOf44, cleared the word of sound bit 44, and the same with the first two of its eight ones cleared
 --     bench             THE TABLE
 --     All P l           P of each entry of a table
 use Prim.Native.Nat.{ℕ, zero, suc, _+_, _-_}
@@ -65,7 +67,6 @@ Holds (codes x s c) = codeAnswer x s ≡ accepted (c ∷ [])
 Holds (sounds c s x) = sampleAnswer c s ≡ accepted (x ∷ [])
 Holds (writes t m o byte) = writeByte t m o ≡ accepted (value 2 byte ∷ [])
 
--- the word of sound bit 44, and the same with the first two of its eight ones cleared
 abbrev pub wordOf44 : List ℕ
 wordOf44 = sent (ones-at 44 (44 ∷ []))
 
