@@ -1,11 +1,14 @@
 -- The bench cases of document 01 that it marks with a star, in one table.
 --     row text          a row of bits as the document prints it
 --     ones-at n ks      n bits, with ones in the places ks, counted from 1 as the document does
+--     isIn k ks         1 where k is one of ks, else 0
+--     withoutOnes n w   the word w with its first n ones cleared
 --     Case              what a case says, with what is given and what comes out
 --     Holds c           that it is so, of the definitions that the promises cite
+--     wordOf44, cleared the word of sound bit 44, and the same with the first two of its eight ones cleared
 --     bench             THE TABLE
 --     All P l           P of each entry of a table
-use Prim.Native.Nat.{ℕ, _+_, _-_}
+use Prim.Native.Nat.{ℕ, zero, suc, _+_, _-_}
 use Prim.Native.Char.{Char, code}
 use Prim.Native.String.{String, [] as end, _∷_ as _then_}
 use mathlib.Core.Path.{_≡_}
@@ -37,6 +40,12 @@ isIn k (x ∷ xs) = cond (eqb k x) 1 (isIn k xs)
 unfoldable pub ones-at : ℕ → List ℕ → List ℕ
 ones-at n ks = tabulate n (λ k. isIn (k + 1) ks)
 
+unfoldable pub withoutOnes : ℕ → List ℕ → List ℕ
+withoutOnes zero w = w
+withoutOnes (suc n) [] = []
+withoutOnes (suc n) (zero ∷ w) = 0 ∷ withoutOnes (suc n) w
+withoutOnes (suc n) (suc x ∷ w) = 0 ∷ withoutOnes n w
+
 pub data Case : Type 0 where
   -- the check bits of 44 sound bits
   checks : List ℕ → List ℕ → Case
@@ -58,12 +67,11 @@ Holds (codes x s c) = codeAnswer x s ≡ accepted (c ∷ [])
 Holds (sounds c s x) = sampleAnswer c s ≡ accepted (x ∷ [])
 Holds (writes t m o byte) = writeByte t m o ≡ accepted (value 2 byte ∷ [])
 
--- the word of sound bit 44, and the same with the first two of its eight ones cleared
 abbrev pub wordOf44 : List ℕ
 wordOf44 = sent (ones-at 44 (44 ∷ []))
 
-unfoldable pub cleared : List ℕ
-cleared = row "000000000000000000000000000000000000000000000000000011101010001"
+abbrev pub cleared : List ℕ
+cleared = withoutOnes 2 wordOf44
 
 unfoldable pub bench : List Case
 bench =

@@ -1,6 +1,8 @@
 -- Laws of bits and bytes.
 --     bitAt-shifted                bit k as a byte's shift gives it
 --     past-end                     past the end every bit is 0
+--     bit-below                    an entry of a row of bits is 0 or 1, past its end too
+--     bitAt-below, bitsOf-at, below-bitsOf    a bit of bytes is 0 or 1; their bits one by one, past the end too
 --     length-eightAt, eightAt-getD, below-eightAt    eight bits, which stands where, each is one
 --     length-bitsOf, length-bytesOf    how many there are
 --     bytes-back, bits-back        bytes made of bytes' bits are those bytes; bits of the bytes that bits make are those bits
@@ -12,7 +14,8 @@ use mathlib.Core.Path.{_≡_, refl, sym, ap, ap₂, _∙_, subst}
 use mathlib.Core.Bool.{true}
 use mathlib.Core.List.{List, [], _∷_, _++_}
 use Prim.Native.Nat.{ℕ, zero, suc, _+_, _-_, _*_, _/_, _%_, _^_, _<_, _≤_}
-use native.Mathlib.Nat.{mod-lt, mod-eq-of-lt}
+use native.Mathlib.Nat.{mod-lt, mod-eq-of-lt, zero-div, zero-mod}
+use native.Mathlib.Decide.{decLe}
 use native.Mathlib.Numerals.{add-one}
 use native.Mathlib.Omega.{arith}
 use borrow.Author.Tests.{lt-ltb, ltb-true}
@@ -95,6 +98,34 @@ bits-back bits n h e =
     rw (getD-tab (length bits / 8) (λ i. byteAt bits (8 * i)) i 0 within, digits-value 2 8 (eightAt bits (8 * i)) (below-eightAt bits (8 * i)) (length-eightAt bits (8 * i)), eightAt-getD bits (8 * i) (k % 8) j, whole)
     (mod-eq-of-lt (below-getD 2 bits k h l)))
     ∙ sym (tab-getD (length bits) bits 0 refl)
+
+-- ---- bits one by one
+pub bit-below : (l : List ℕ) (k : ℕ) → Below 2 l → getD l k 0 < 2
+bit-below l k h = go (decLe (suc k) (length l))
+  where
+    go : Dec (k < length l) → getD l k 0 < 2
+    go (yes i) = below-getD 2 l k h i
+    go (no o) = rw (List·getD-eq-default l 0 {n = k} (omega arith)) (omega arith)
+
+pub bitAt-below : (bytes : List ℕ) (k : ℕ) → bitAt bytes k < 2
+bitAt-below bytes k = rw (bitAt-shifted bytes k) (mod-lt (getD bytes (k / 8) 0 / 2 ^ (7 - k % 8)) (omega arith))
+
+pub bitsOf-at : (bytes : List ℕ) (k : ℕ) → getD (bitsOf bytes) k 0 ≡ bitAt bytes k
+unfolding bitsOf
+bitsOf-at bytes k = go (decLe (suc k) (8 * length bytes))
+  where
+    past : length bytes ≤ k / 8 → bitAt bytes k ≡ 0
+    past h = bitAt-shifted bytes k ∙ rw (List·getD-eq-default bytes 0 h, zero-div, zero-mod)
+
+    go : Dec (k < 8 * length bytes) → getD (bitsOf bytes) k 0 ≡ bitAt bytes k
+    go (yes i) = getD-tab (8 * length bytes) (bitAt bytes) k 0 i
+    go (no o) =
+        let end : length (bitsOf bytes) ≤ k = omega (arith, length-bitsOf bytes) in
+        List·getD-eq-default (bitsOf bytes) 0 end ∙ sym (past (omega arith))
+
+pub below-bitsOf : (bytes : List ℕ) → Below 2 (bitsOf bytes)
+unfolding bitsOf
+below-bitsOf bytes = below-tab 2 (8 * length bytes) (bitAt bytes) (λ k h. bitAt-below bytes k)
 
 -- ---- ones
 pub ones-append : (xs ys : List ℕ) → ones (xs ++ ys) ≡ ones xs + ones ys

@@ -1,4 +1,6 @@
 -- The generators' coefficients, written out, and as the binary digits of the code's numbers.
+--     block-coefficients            those of the block's generator, written out
+--     block-number, scale-number    the numbers of the code have these digits
 -- Assumes nothing.
 use mathlib.Core.Path.{_≡_, refl}
 use mathlib.Core.List.{[], _∷_}

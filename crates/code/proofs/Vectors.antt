@@ -1,4 +1,6 @@
 -- Document 01's bench cases of check bits.
+--     none, bit-44, bit-43       44 zeros; only sound bit 44 set; only sound bit 43
+--     factors-01, factors-02     the six bits of factors 0, 1 and of 0, 2
 -- Assumes nothing.
 use mathlib.Core.Path.{_≡_, refl}
 use mathlib.Core.List.{[], _∷_, _++_}

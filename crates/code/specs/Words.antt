@@ -4,13 +4,16 @@
 --     CodeWord w        a word of 63 bits: 44 sound bits and 19 check bits ("The block")
 --     ScaleWord w       a word of 14 bits: the factors' six bits and eight check bits ("Scale words")
 --     distance v w      the number of places in which two words of one length differ: their sum has its ones there
+--     differing v w     the same, counted place by place
 --     Smallest W d      d is the smallest number of places in which two different words that W holds of differ
 --     codeDistance, scaleDistance
 --                       that number for code words (document 01 gives it) and for scale words
 use mathlib.Core.Path.{_≡_}
 use mathlib.Core.Logic.{_≢_}
-use mathlib.Core.List.{List, _++_}
+use mathlib.Core.Bool.{cond}
+use mathlib.Core.List.{List, [], _∷_, _++_}
 use Prim.Native.Nat.{ℕ, _+_, _≤_}
+use lib.Dec.{eqb}
 use lib.ListN.{length, take, drop}
 use Rattle.bits.specs.Bits.{ones}
 use Rattle.bits.specs.Digits.{Below}
@@ -34,6 +37,11 @@ ScaleWord w = Word 6 scaleGenerator w
 
 unfoldable pub distance : List ℕ → List ℕ → ℕ
 distance v w = ones (v ⊕ w)
+
+unfoldable pub differing : List ℕ → List ℕ → ℕ
+differing [] w = 0
+differing (x ∷ v) [] = 0
+differing (x ∷ v) (y ∷ w) = cond (eqb x y) 0 1 + differing v w
 
 pub record Smallest (W : List ℕ → Type 0) (d : ℕ) : Type 0 where
   pub apart : (v w : List ℕ) → W v → W w → v ≢ w → d ≤ distance v w

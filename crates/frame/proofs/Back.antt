@@ -4,8 +4,8 @@
 --     good-blocks, below-frame    entries that pass the test are bits, and so is the whole frame
 --     frame-bits, frame-bytes     the bits of a frame's bytes; there are 40
 --     written-reads               THE FIRST: a frame that was written reads as the service bit sent and the four blocks
---     read-zero, read-found       number 0 says that there are 40 bytes whose sync is right, and what was found
---     bits-kept                   writing that makes the frame's bits again, but for B's service bit
+--     read-zero, read-found       number 0 says that there are 40 bytes with at most `mostWrong` wrong sync bits, and what was found
+--     bits-kept, right-writes     writing that makes the frame's bits again, but for B's service bit, where the sync is right
 --     read-writes                 THE SECOND: what a frame reads as is written as that frame, B with its service bit 0
 -- Assumes nothing.
 use mathlib.Core.Path.{_≡_, refl, sym, ap, _∙_, subst}
@@ -24,14 +24,13 @@ use Rattle.bits.specs.Digits.{Below}
 use Rattle.bits.specs.Bits.{bitAt, bitsOf, bytesOf, areBits}
 use Rattle.bits.proofs.Table.{getD-tab, tab-ext, tab-getD}
 use Rattle.bits.proofs.Tests.{both-true}
-use Rattle.bits.proofs.Bits.{length-bitsOf, length-bytesOf, bytes-back, bits-back, bits-below, below-bits}
+use Rattle.bits.proofs.Bits.{length-bitsOf, length-bytesOf, bytes-back, bits-back, bits-below, below-bits, bitsOf-at, bitAt-below, below-bitsOf}
 use Rattle.frame.specs.Frame.{syncWord, serviceIn, interleave, block, frameBits, frameBytes, deinterleave, blockAt, bitAtPlace}
-use Rattle.frame.specs.Read.{wrongSync, serviceRead, blockOf, blocksIn, nothing, found, blocksOf, readFrame, serviceCleared}
+use Rattle.frame.specs.Read.{wrongSync, mostWrong, serviceRead, blockOf, blocksIn, nothing, found, blocksOf, readFrame, serviceCleared}
 use Rattle.frame.specs.Write.{goodValues, Written}
 use Rattle.frame.specs.declared.FrameRead.{FrameRead}
 use Rattle.frame.specs.declared.Letter.{Letter}
 use Rattle.frame.specs.declared.Letter.the-variants.{A, B}
-use Rattle.frame.proofs.Rows.{bitsOf-at, bitAt-below, below-bitsOf}
 use Rattle.frame.proofs.Interleave.{below-interleave}
 use Rattle.frame.proofs.Parts.{below-parts}
 use Rattle.frame.proofs.Sync.{length-sync, below-sync, sync-matches, sync-right}
@@ -68,7 +67,7 @@ module _ (letter : Letter) (bytes bits : List ℕ) (sized : length bytes ≡ 40)
       let none = sync-right letter bytes right in
       rw (
         eq-eqb (length bytes) 40 sized,
-        le-leb (wrongSync letter bytes) 0 (omega arith),
+        le-leb (wrongSync letter bytes) mostWrong (omega arith),
         sent-read letter bytes,
         block-there bytes 0 (omega arith),
         block-there bytes 1 (omega arith),
@@ -135,16 +134,14 @@ cleared A bytes h = ap (λ (x : ℕ). bytesOf (set (bitsOf bytes) 11 x)) (sym (b
 cleared B bytes h = refl
 
 module _ (letter : Letter) (bytes : List ℕ) (taken : readFrame letter bytes .number ≡ 0) where
-  tests : (eqb (length bytes) 40 ≡ true) × (leb (wrongSync letter bytes) 0 ≡ true)
+  tests : (eqb (length bytes) 40 ≡ true) × (leb (wrongSync letter bytes) mostWrong ≡ true)
   unfolding readFrame nothing
   tests =
-      read-ways (eqb (length bytes) 40) (leb (wrongSync letter bytes) 0) (found (serviceRead letter bytes) (blocksIn bytes)) (nothing 3) (nothing 1)
+      read-ways (eqb (length bytes) 40) (leb (wrongSync letter bytes) mostWrong) (found (serviceRead letter bytes) (blocksIn bytes)) (nothing 3) (nothing 1)
       (suc-ne-zero 2) (suc-ne-zero 0) taken
 
-  pub read-zero : (length bytes ≡ 40) × (wrongSync letter bytes ≡ 0)
-  read-zero =
-      let none : wrongSync letter bytes ≤ 0 = leb-true (wrongSync letter bytes) 0 (tests .1) in
-      (eqb-true (length bytes) 40 (tests .0), omega arith)
+  pub read-zero : (length bytes ≡ 40) × (wrongSync letter bytes ≤ mostWrong)
+  read-zero = (eqb-true (length bytes) 40 (tests .0), leb-true (wrongSync letter bytes) mostWrong (tests .1))
 
   pub read-found : readFrame letter bytes ≡ found (serviceRead letter bytes) (blocksIn bytes)
   unfolding readFrame
@@ -172,49 +169,55 @@ module _ (letter : Letter) (bytes : List ℕ) (taken : readFrame letter bytes .n
   long : length (bitsOf bytes) ≡ 320
   long = length-bitsOf bytes ∙ ap (λ (n : ℕ). 8 * n) (read-zero .0)
 
-  -- place by place: the sync is right, and each place behind the service bit is that of a bit of a block
-  bit-kept : (k : ℕ) → k < 320 → (k ≡ 11 → ⊥) → getD (frameBits letter (serviceRead letter bytes) (blocksIn bytes)) k 0 ≡ getD (bitsOf bytes) k 0
-  bit-kept k h other = go (decLe (suc k) 11)
-    where
-      go : Dec (k < 11) → getD (frameBits letter (serviceRead letter bytes) (blocksIn bytes)) k 0 ≡ getD (bitsOf bytes) k 0
-      go (yes i) =
-          frame-sync letter (serviceRead letter bytes) (blocksIn bytes) sized-blocks k i
-          ∙ ap (λ (l : List ℕ). getD l k 0) (sym (sync-matches letter bytes (read-zero .1)))
-          ∙ getD-tab 11 (bitAt bytes) k 0 i ∙ sym (bitsOf-at bytes k)
-      go (no o) =
-          let home = place-belongs k (omega arith) h in
-          let b : ℕ = blockAt k in
-          let j : ℕ = bitAtPlace k in
-          ap (λ (n : ℕ). getD (frameBits letter (serviceRead letter bytes) (blocksIn bytes)) n 0) (sym (home .place))
-          ∙ placed letter (serviceRead letter bytes) (blocksIn bytes) sized-blocks b j (home .block-there) (home .bit-there)
-          ∙ ap (λ (l : List ℕ). getD l j 0) (each b (home .block-there))
-          ∙ gathered-at (bitsOf bytes) b j (home .bit-there)
-          ∙ ap (λ (n : ℕ). getD (bitsOf bytes) n 0) (home .place)
+  module _ (right : wrongSync letter bytes ≡ 0) where
+    -- place by place: the sync is right, and each place behind the service bit is that of a bit of a block
+    bit-kept : (k : ℕ) → k < 320 → (k ≡ 11 → ⊥) → getD (frameBits letter (serviceRead letter bytes) (blocksIn bytes)) k 0 ≡ getD (bitsOf bytes) k 0
+    bit-kept k h other = go (decLe (suc k) 11)
+      where
+        go : Dec (k < 11) → getD (frameBits letter (serviceRead letter bytes) (blocksIn bytes)) k 0 ≡ getD (bitsOf bytes) k 0
+        go (yes i) =
+            frame-sync letter (serviceRead letter bytes) (blocksIn bytes) sized-blocks k i
+            ∙ ap (λ (l : List ℕ). getD l k 0) (sym (sync-matches letter bytes right))
+            ∙ getD-tab 11 (bitAt bytes) k 0 i ∙ sym (bitsOf-at bytes k)
+        go (no o) =
+            let home = place-belongs k (omega arith) h in
+            let b : ℕ = blockAt k in
+            let j : ℕ = bitAtPlace k in
+            ap (λ (n : ℕ). getD (frameBits letter (serviceRead letter bytes) (blocksIn bytes)) n 0) (sym (home .place))
+            ∙ placed letter (serviceRead letter bytes) (blocksIn bytes) sized-blocks b j (home .block-there) (home .bit-there)
+            ∙ ap (λ (l : List ℕ). getD l j 0) (each b (home .block-there))
+            ∙ gathered-at (bitsOf bytes) b j (home .bit-there)
+            ∙ ap (λ (n : ℕ). getD (bitsOf bytes) n 0) (home .place)
 
-  pub bits-kept : frameBits letter (serviceRead letter bytes) (blocksIn bytes) ≡ set (bitsOf bytes) 11 (serviceIn letter (serviceRead letter bytes))
-  bits-kept =
-      ext-getD 0 (frameBits letter (serviceRead letter bytes) (blocksIn bytes)) (set (bitsOf bytes) 11 service)
-      (length-frame letter (serviceRead letter bytes) (blocksIn bytes) sized-blocks ∙ sym (length-set (bitsOf bytes) 11 service ∙ long))
-      (λ k h. go k (subst (λ (n : ℕ). k < n) (length-frame letter (serviceRead letter bytes) (blocksIn bytes) sized-blocks) h) (ℕ-discrete k 11))
-    where
-      service : ℕ
-      service = serviceIn letter (serviceRead letter bytes)
+    pub bits-kept : frameBits letter (serviceRead letter bytes) (blocksIn bytes) ≡ set (bitsOf bytes) 11 (serviceIn letter (serviceRead letter bytes))
+    bits-kept =
+        ext-getD 0 (frameBits letter (serviceRead letter bytes) (blocksIn bytes)) (set (bitsOf bytes) 11 service)
+        (length-frame letter (serviceRead letter bytes) (blocksIn bytes) sized-blocks ∙ sym (length-set (bitsOf bytes) 11 service ∙ long))
+        (λ k h. go k (subst (λ (n : ℕ). k < n) (length-frame letter (serviceRead letter bytes) (blocksIn bytes) sized-blocks) h) (ℕ-discrete k 11))
+      where
+        service : ℕ
+        service = serviceIn letter (serviceRead letter bytes)
 
-      go : (k : ℕ) → k < 320 → Dec (k ≡ 11) → getD (frameBits letter (serviceRead letter bytes) (blocksIn bytes)) k 0 ≡ getD (set (bitsOf bytes) 11 service) k 0
-      go k h (yes e) =
-          rw e (frame-service letter (serviceRead letter bytes) (blocksIn bytes) sized-blocks ∙ sym (getD-set-same (bitsOf bytes) 11 service 0 (omega (arith, long))))
-      go k h (no o) = bit-kept k h o ∙ sym (getD-set-other (bitsOf bytes) 11 k service 0 o)
+        go : (k : ℕ) → k < 320 → Dec (k ≡ 11) → getD (frameBits letter (serviceRead letter bytes) (blocksIn bytes)) k 0 ≡ getD (set (bitsOf bytes) 11 service) k 0
+        go k h (yes e) =
+            rw e (frame-service letter (serviceRead letter bytes) (blocksIn bytes) sized-blocks ∙ sym (getD-set-same (bitsOf bytes) 11 service 0 (omega (arith, long))))
+        go k h (no o) = bit-kept k h o ∙ sym (getD-set-other (bitsOf bytes) 11 k service 0 o)
 
-  -- the bytes of those bits
-  bytes-kept : Below 256 bytes → frameBytes letter (serviceRead letter bytes) (blocksIn bytes) ≡ serviceCleared letter bytes
-  unfolding frameBytes
-  bytes-kept h = ap bytesOf bits-kept ∙ cleared letter bytes h
+    -- the bytes of those bits
+    bytes-kept : Below 256 bytes → frameBytes letter (serviceRead letter bytes) (blocksIn bytes) ≡ serviceCleared letter bytes
+    unfolding frameBytes
+    bytes-kept h = ap bytesOf bits-kept ∙ cleared letter bytes h
 
+    pub right-writes : Below 256 bytes → (out : List ℕ) → length out ≡ 40
+        → Written letter (readFrame letter bytes .service) (blocksOf (readFrame letter bytes)) out 0 (serviceCleared letter bytes)
+    unfolding goodValues
+    right-writes h out sized =
+        rw read-found
+        (success letter (serviceRead letter bytes) (blocksIn bytes) out 0
+        (number-none (length out) (serviceRead letter bytes) (blocksIn bytes) sized (rw (le-leb (serviceRead letter bytes) 1 (below-service letter bytes), all-bits)))
+        (serviceCleared letter bytes) refl (sym (bytes-kept h)))
+
+  -- a sync that is taken has at most `mostWrong` wrong bits, and so none
   pub read-writes : Below 256 bytes → (out : List ℕ) → length out ≡ 40
       → Written letter (readFrame letter bytes .service) (blocksOf (readFrame letter bytes)) out 0 (serviceCleared letter bytes)
-  unfolding goodValues
-  read-writes h out sized =
-      rw read-found
-      (success letter (serviceRead letter bytes) (blocksIn bytes) out 0
-      (number-none (length out) (serviceRead letter bytes) (blocksIn bytes) sized (rw (le-leb (serviceRead letter bytes) 1 (below-service letter bytes), all-bits)))
-      (serviceCleared letter bytes) refl (sym (bytes-kept h)))
+  read-writes h out sized = let few = read-zero .1 in right-writes (omega arith) h out sized

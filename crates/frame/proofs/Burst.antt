@@ -17,10 +17,11 @@ use Rattle.bits.specs.Digits.{Below}
 use Rattle.bits.specs.Bits.{bitsOf, bytesOf, ones}
 use Rattle.bits.proofs.Table.{tab-ext}
 use Rattle.bits.proofs.Digits.{below-take, below-drop}
-use Rattle.bits.proofs.Bits.{length-bytesOf, bits-back}
+use Rattle.bits.proofs.Bits.{length-bytesOf, bits-back, bit-below}
 use Rattle.bits.proofs.Answer.{accepted-same}
+use Rattle.bits.proofs.Ones.{ones-take, ones-window}
 use Rattle.remainder.specs.Polynomial.{_⊕_}
-use Rattle.remainder.proofs.Sum.{length-⊕, below-⊕}
+use Rattle.remainder.proofs.Sum.{length-⊕, below-⊕, getD-⊕, ⊕-tab, take-⊕}
 use Rattle.code.specs.Words.{CodeWord, encode}
 use Rattle.code.proofs.Distance.{distance-changed}
 use Rattle.reading.specs.Demand.{sent}
@@ -32,7 +33,6 @@ use Rattle.frame.specs.Read.{blockOf, found, readFrame}
 use Rattle.frame.specs.Write.{Written}
 use Rattle.frame.specs.Burst.{damaged, damagedBlocks, Burst, Survives}
 use Rattle.frame.specs.declared.Letter.{Letter}
-use Rattle.frame.proofs.Rows.{bit-below, getD-⊕, ⊕-tab, take-⊕, ones-take, ones-window}
 use Rattle.frame.proofs.Places.{length-gathered, Sized, length-frame, frame-sync, frame-service, blocks-gathered}
 use Rattle.frame.proofs.Writing.{written-is}
 use Rattle.frame.proofs.Back.{block-there, reads, sent-twice, good-blocks, below-frame, frame-bits}

@@ -18,9 +18,9 @@ use lib.ListN.{length, getD}
 use Rattle.bits.specs.Digits.{Below}
 use Rattle.bits.proofs.Table.{length-tab, getD-tab, tab-ext, tab-getD}
 use Rattle.bits.proofs.Digits.{below-tab}
+use Rattle.bits.proofs.Bits.{bit-below}
 use Rattle.frame.specs.Frame.{syncWord, serviceIn, interleave, block, frameBits, placeOf, deinterleave, Belongs, blockAt, bitAtPlace}
 use Rattle.frame.specs.declared.Letter.{Letter}
-use Rattle.frame.proofs.Rows.{bit-below}
 use Rattle.frame.proofs.Interleave.{length-interleave, interleave-even, interleave-odd}
 use Rattle.frame.proofs.Parts.{length-parts, at-sync, at-service, at-front, at-back}
 use Rattle.frame.proofs.Sync.{length-sync}

@@ -13,8 +13,9 @@ use Rattle.bits.specs.Digits.{Below}
 use Rattle.bits.specs.Bits.{bitAt, ones}
 use Rattle.bits.proofs.Table.{length-tab, tab-getD}
 use Rattle.bits.proofs.Digits.{below-tab}
+use Rattle.bits.proofs.Bits.{bitAt-below}
 use Rattle.remainder.specs.Polynomial.{_⊕_, zeros}
-use Rattle.remainder.proofs.Sum.{length-⊕, below-⊕, ⊕-cancel}
+use Rattle.remainder.proofs.Sum.{length-⊕, below-⊕, ⊕-cancel, ⊕-tab}
 use Rattle.remainder.proofs.Ones.{none-zeros}
 use Rattle.code.specs.Words.{distance}
 use Rattle.code.proofs.Distance.{distance-self}
@@ -22,7 +23,6 @@ use Rattle.frame.specs.Frame.{syncWord}
 use Rattle.frame.specs.Read.{wrongSync}
 use Rattle.frame.specs.declared.Letter.{Letter}
 use Rattle.frame.specs.declared.Letter.the-variants.{A, B}
-use Rattle.frame.proofs.Rows.{bitAt-below, ⊕-tab}
 
 pub length-sync : (letter : Letter) → length (syncWord letter) ≡ 11
 unfolding syncWord

@@ -1,4 +1,4 @@
--- Any two results that meet a promise are the same. Assumes nothing.
+-- Any two results that meet a promise are the same: for each public function, `FUNCTION-unique`. Assumes nothing.
 use mathlib.Core.Path.{_≡_}
 use mathlib.Core.List.{List}
 use Prim.Native.Nat.{ℕ}

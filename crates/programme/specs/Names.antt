@@ -2,6 +2,7 @@
 --     names             the names of types 0 to 15, as the document prints them
 --     padded text       its characters, with spaces behind them up to eight
 --     nameOf t          the short name of type t
+--     capital, inWord   whether a character is a capital; a capital, '+', '-' or a space
 --     goodWord cs       one to eight characters: capitals, '+', '-' and spaces, the first and the last a capital
 --     nameFor t         what looking type t up answers: its name, or number 2 for a type over 15
 use Prim.Native.Nat.{ℕ, _-_}

@@ -1,4 +1,6 @@
 -- Document 01's bench cases of reading.
+--     all-ones, three       63 ones, and ones in places 1, 2 and 3 only: bad
+--     two-cleared           the word of sound bit 44 with its first two ones cleared: mended with 2
 -- Assumes nothing.
 use mathlib.Core.Path.{_≡_, refl}
 use mathlib.Core.List.{[], _∷_, _++_}

@@ -1,6 +1,6 @@
 -- What reading the 63 protected bits of a block answers, within a radius (document 01, "The block"; the mission's second demand).
 -- The ordinary radius is 2. A set of places is a mask of 63 bits, with ones at those places; its number is the count of its ones.
---     clean, mended n c, bad    a reading; mended says how many places were turned, and what the word became
+--     Reading: clean, mended n c, bad    mended says how many places were turned, and what the word became
 --     Reads radius w r          THE DEMAND: r is what reading w answers
 --     handed w r                the 63 bits handed on: a bad word as it was received
 --     turned n c                the reading of a word n places from the code word c: clean at 0, mended above

@@ -1,5 +1,6 @@
 -- A reading that is computed: from the remainder of the word, by a search for few places that leave the same remainder.
 --     seek k cs s       a mask with at most k ones, a bit for each of the columns cs, such that s and the columns at its ones add up to zero
+--     ahead x o, orElse a b     what was found, with one place more in front; the first of two that was found
 --     found w m         the reading of w where the search gives m: with those places turned, w is a code word
 --     reading radius w  THE READING
 use mathlib.Core.Bool.{cond}

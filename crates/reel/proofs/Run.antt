@@ -1,4 +1,5 @@
 -- Laws of runs.
+--     empty-run                       no bytes are a run, which has no first superframe
 --     run-lengths, run-of-length      a run is a whole number of superframes, at most 1,000,000; and every such length is a run's
 --     run-counted, no-run             what counting says of the bytes
 --     part-inside, part-before, part-behind, part-no-run    the way to each number of a part
@@ -22,6 +23,10 @@ use Rattle.bits.proofs.Answer.{by-test, by-test-refused}
 use Rattle.bits.proofs.Tests.{both-true}
 use Rattle.reel.specs.Header.{mostSuperframes}
 use Rattle.reel.specs.Run.{superframeBytes, countOf, isRun, superframe, runOf, partNumber}
+
+pub empty-run : (isRun [] ≡ true) × (partNumber [] 1 ≡ 2)
+unfolding isRun partNumber
+empty-run = (refl, refl)
 
 pub run-lengths : (bytes : List ℕ) → isRun bytes ≡ true → (length bytes ≡ superframeBytes * countOf bytes) × (countOf bytes ≤ mostSuperframes)
 unfolding isRun

@@ -1,4 +1,4 @@
--- Any two results that meet a promise are the same. Assumes nothing.
+-- Any two results that meet a promise are the same: for each public function, `FUNCTION-unique`. Assumes nothing.
 use mathlib.Core.Path.{_≡_, refl, sym}
 use mathlib.Core.List.{List, [], _∷_}
 use Prim.Native.Nat.{ℕ}

@@ -1,5 +1,6 @@
 pub mod Sum
 pub mod Division
+pub mod Divided
 pub mod Columns
 pub mod Ones
 pub mod Parity

@@ -4,6 +4,7 @@
 --     ⊕-zeros, zeros-⊕, ⊕-self      zero; a polynomial and itself
 --     ⊕-cancel                      two whose sum is zero are equal
 --     ⊕-append                      the sum in two parts
+--     ⊕-tab, getD-⊕, take-⊕         the sum of two tables; a sum entry by entry; its first entries
 --     length-zeros, below-zeros, zeros-snoc
 --     length-times, times-zero, times-one, ⊕-times
 --                                   a coefficient times a polynomial, and how sums go with it
@@ -13,8 +14,10 @@ use mathlib.Core.List.{List, [], _∷_, _++_}
 use Prim.Native.Nat.{ℕ, zero, suc, _+_, _*_, _/_, _%_, _<_}
 use native.Mathlib.Nat.{suc-inj, suc-ne-zero, zero-mul, one-mul, mul-assoc, add-mul, mod-add-div, add-mul-mod-self-left, mod-add-mod, add-mod-mod, add-mod}
 use native.Mathlib.Omega.{arith}
-use lib.ListN.{length, length-replicate}
+use lib.ListN.{length, length-replicate, getD, take}
+use Rattle.bits.specs.Table.{tabulate}
 use Rattle.bits.specs.Digits.{Below}
+use Rattle.bits.proofs.Table.{length-tab}
 use Rattle.remainder.specs.Polynomial.{_⊕_, zeros, times}
 
 pub cons : {x y : ℕ} {p q : List ℕ} → x ≡ y → p ≡ q → _≡_ {A = List ℕ} (x ∷ p) (y ∷ q)
@@ -59,6 +62,29 @@ unfolding _⊕_
 ⊕-append [] (y ∷ b) c d h = absurd (suc-ne-zero _ (sym h))
 ⊕-append (x ∷ a) [] c d h = absurd (suc-ne-zero _ h)
 ⊕-append (x ∷ a) (y ∷ b) c d h = cons refl (⊕-append a b c d (suc-inj h))
+
+-- ---- entry by entry
+pub ⊕-tab : (n : ℕ) (f g : ℕ → ℕ) → tabulate n f ⊕ tabulate n g ≡ tabulate n (λ k. (f k + g k) % 2)
+unfolding tabulate _⊕_
+⊕-tab zero f g = refl
+⊕-tab (suc n) f g =
+    ⊕-append (tabulate n f) (tabulate n g) (f n ∷ []) (g n ∷ []) (length-tab n f ∙ sym (length-tab n g))
+    ∙ ap (λ (l : List ℕ). l ++ ((f n + g n) % 2 ∷ [])) (⊕-tab n f g)
+
+pub getD-⊕ : (p q : List ℕ) (k : ℕ) → length p ≡ length q → getD (p ⊕ q) k 0 ≡ (getD p k 0 + getD q k 0) % 2
+unfolding _⊕_
+getD-⊕ [] [] k h = refl
+getD-⊕ [] (y ∷ q) k h = absurd (suc-ne-zero _ (sym h))
+getD-⊕ (x ∷ p) [] k h = absurd (suc-ne-zero _ h)
+getD-⊕ (x ∷ p) (y ∷ q) zero h = refl
+getD-⊕ (x ∷ p) (y ∷ q) (suc k) h = getD-⊕ p q k (suc-inj h)
+
+pub take-⊕ : (n : ℕ) (p q : List ℕ) → take n (p ⊕ q) ≡ take n p ⊕ take n q
+unfolding _⊕_
+take-⊕ zero p q = refl
+take-⊕ (suc n) [] q = refl
+take-⊕ (suc n) (x ∷ p) [] = refl
+take-⊕ (suc n) (x ∷ p) (y ∷ q) = cons refl (take-⊕ n p q)
 
 -- ---- zero
 pub length-zeros : (n : ℕ) → length (zeros n) ≡ n

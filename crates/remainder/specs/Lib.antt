@@ -1,3 +1,4 @@
 pub mod Polynomial
 pub mod Remainder
 pub mod Columns
+pub mod Divided

@@ -5,6 +5,7 @@
 --     neg-mul, mul-mul             a product with a factor that has no sign
 --     mag-mul, mag-shr-lt          the bound of a product and of a quotient
 --     shr-mul, shr-shr, mul-shr    a quotient of a product, of a quotient; a product of a quotient
+--     rounded-down                 a quotient is rounded down: it leaves 0 to p - 1, for a negative number too
 --     shift-up, shift-down         a product divided by what divides its factor, or by a multiple of it
 -- Assumes nothing.
 use mathlib.Core.Path.{_≡_, refl, sym, ap, _∙_}
@@ -95,6 +96,11 @@ mul-shr (negsuc a) (suc k) l =
     let e : a / suc k * suc k + a % suc k ≡ a = div-add-mod' a (suc k) in
     let r : a % suc k < suc k = mod-lt a l in
     rw (neg-mul (a / suc k) k, negsuc-sub a (suc k - 1 - a % suc k)) (ap negsuc (omega arith))
+
+pub rounded-down : (z : ℤ) (p : ℕ) → 0 < p → (shrZ z p *ℤ pos p ≡ z -ℤ pos (modZ z p)) × (modZ z p < p)
+unfolding modZ
+rounded-down (pos a) p l = (mul-shr (pos a) p l, mod-lt a l)
+rounded-down (negsuc a) p l = (mul-shr (negsuc a) p l, omega arith)
 
 pub shift-up : (z : ℤ) (p q r : ℕ) → 0 < p → 0 < q → r ≡ p * q → shrZ (z *ℤ pos r) q ≡ z *ℤ pos p
 shift-up z p q r k l e = rw (e, ← mul-mul z p q k l) (shr-mul (z *ℤ pos p) q l)

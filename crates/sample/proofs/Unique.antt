@@ -5,6 +5,7 @@ use mathlib.Core.Bool.{Bool}
 use mathlib.Core.List.{List}
 use Prim.Native.Nat.{ℕ}
 use lib.IntN.{ℤ}
+use lib.Signed.{mag}
 use Rattle.sample.specs.Sample.{isCode, coded, sampled, codeAnswer, sampleAnswer}
 use Rattle.sample.specs.Factor.{chosen, factorAnswer}
 use Rattle.sample.specs.Pattern.{signedOf, patternOf}
@@ -46,3 +47,6 @@ pattern-of-unique r r' z = same
 
 pub is-code-unique : (r r' : Bool) (c : ℤ) → r ≡ isCode c → r' ≡ isCode c → r ≡ r'
 is-code-unique r r' c = same
+
+pub reach-unique : (r r' : ℕ) (z : ℤ) → r ≡ mag z → r' ≡ mag z → r ≡ r'
+reach-unique r r' z = same

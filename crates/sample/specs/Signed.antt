@@ -1,7 +1,7 @@
 -- Numbers with a sign.
 --     between a b z     z is from a to b, both of them among these
 --     modZ z m          what z leaves over m: 0 to m - 1, as a division that rounds down leaves it
--- Division itself, rounded down, is the library's `shrZ z m`.
+-- Division itself, rounded down, is the library's `shrZ z m`; how far z reaches from 0, n for n and for -(n + 1), its `mag z`.
 use mathlib.Core.Bool.{Bool, _&&_}
 use Prim.Native.Nat.{ℕ, _-_, _%_}
 use lib.IntN.{ℤ, pos, negsuc}

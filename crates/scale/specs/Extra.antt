@@ -1,6 +1,7 @@
 -- The extra bits of one programme over 64 main frames (document 01, "Scale words": bits 1 to 42 the scale word three times, bits 43
 -- to 64 the information word).
 --     information bits  the information word as a number, its first bit the highest
+--     beside word a     a reading of the factors with the word beside it; what does not come is 0
 --     extraAnswer bits  what the 64 bits read as: number 2 where an entry is not 0 or 1, else the factors or number 5, and the word
 use Prim.Native.Nat.{ℕ}
 use mathlib.Core.Bool.{cond}
@@ -15,7 +16,6 @@ use Rattle.scale.specs.declared.Extra.{Extra}
 unfoldable pub information : List ℕ → ℕ
 information bits = value 2 (drop 42 bits)
 
--- what does not come is 0
 abbrev pub beside : ℕ → Answer ℕ → Extra
 beside word a = record { number = a .number; left = getD (a .values) 0 0; right = getD (a .values) 1 0; word = word }
 

@@ -25,7 +25,7 @@ use Rattle.service.specs.Service.{searchingService, served}
 use Rattle.service.specs.declared.Service.{Service}
 use Rattle.service.specs.declared.sync.Kind.{Kind}
 use Rattle.service.specs.declared.sync.Kind.the-variants.{First, Second, Neither}
-use Rattle.service.proofs.Tests.{either-way}
+use Rattle.bits.proofs.Tests.{picked}
 use Rattle.service.proofs.Orders.{at-comes, behind-none, zeros-getD, was-alike}
 use Rattle.service.proofs.Machine.{InRange, served-is}
 
@@ -40,7 +40,7 @@ group-clean First p g six b e i l u = zeros-getD 32 i l
 group-clean Second p g six true e i l u =
     let past : p + 1 ≤ i / 4 + 1 = rw e at u in
     rw e
-    (either-way (λ (x : List ℕ). getD x i 0 ≡ 0) (ltb 1 (p + 1)) (groupAfter p g six) (zeros 32)
+    (picked (λ (x : List ℕ). getD x i 0 ≡ 0) (ltb 1 (p + 1)) (groupAfter p g six) (zeros 32)
     (getD-tab 32 (channelByte p g six) i 0 l ∙ behind-none p (i / 4 + 1) _ _ (omega arith))
     (zeros-getD 32 i l))
 group-clean Second p g six false e i l u = rw e (zeros-getD 32 i l)

@@ -2,6 +2,8 @@
 --     InRange, in-range-true, in-range-fact      the range as a fact, and as the test has it
 --     first-kind, second-kind, neither-kind      the two syncs, and any other
 --     opened                   a group at its first position, with labels searched for
+--     leftOf, rightOf          the channels of a programme
+--     bytes-placed             bytes 1 to 4 at position m are the channels left and right of programmes 2m - 1 and 2m
 --     served-is                an accepted step: the six bytes first, then the sync
 --     position-kept            the six bytes are handed on with the position that they came with
 --     first-opens              Sync 1 starts a group at position 1
@@ -9,26 +11,29 @@
 --     second-continues         Sync 2 continues the open group
 --     second-dropped           a Sync 2 with no group open, or after position 8, is dropped
 --     neither-searches         a sync that is neither gives 7, drops, and sets searching
---     separator-found, group-brings, eighth-ends      what the group does that position 8 completes, by the stage
+--     separator-found, no-separator, group-brings, eighth-ends      what the group does that position 8 completes, by the stage
 -- Assumes nothing.
-use mathlib.Core.Path.{_≡_, refl, _∙_}
+use mathlib.Core.Path.{_≡_, refl, ap, _∙_}
 use mathlib.Core.Logic.{_⊎_, inr, ⊎-elim}
 use mathlib.Core.Bool.{Bool, true, false, cond}
 use mathlib.Core.List.{List}
-use Prim.Native.Nat.{ℕ, _+_, _<_, _≤_}
+use Prim.Native.Nat.{ℕ, _+_, _-_, _*_, _/_, _%_, _<_, _≤_}
 use native.Mathlib.Omega.{arith}
 use lib.Dec.{eqb, leb, ltb}
+use lib.ListN.{getD}
 use borrow.Author.Tests.{leb-true, le-leb, lt-ltb, ne-eqb}
 use Rattle.bits.specs.Digits.{Below}
 use Rattle.bits.specs.Bits.{allBelow}
 use Rattle.service.specs.Places.{zeros}
-use Rattle.service.specs.Six.{groupAfter, stageAfter, separates, takeSix, isReady}
+use Rattle.service.specs.Six.{channelByte, groupAfter, stageAfter, separates, takeSix, isReady}
 use Rattle.service.specs.Sync.{sync1, sync2, agree, kindOf, isOpen, dropsWith, takeSync}
 use Rattle.service.specs.Service.{inRange, accepts, stepBy, served, searchingService}
 use Rattle.service.specs.declared.Service.{Service}
 use Rattle.service.specs.declared.sync.Kind.the-variants.{First, Second, Neither}
-use Rattle.service.proofs.Tests.{both, both-left, both-right}
+use Rattle.bits.proofs.Tests.{both, both-left, both-right}
 use Rattle.bits.proofs.Bits.{below-all}
+use Rattle.bits.proofs.Table.{getD-tab}
+use Rattle.service.proofs.Orders.{at-comes}
 use Rattle.service.proofs.Syncs.{disagree}
 
 pub record InRange (s : Service) : Type 0 where
@@ -70,6 +75,29 @@ neither-kind sync f g = rw (disagree sync sync1 f, disagree sync sync2 g)
 
 abbrev pub opened : Service
 opened = record { position = 1; group = zeros 32; stage = 0; labels = zeros 256 }
+
+-- ---- the six bytes; channels count from 0, programmes from 1
+abbrev pub leftOf : ℕ → ℕ
+leftOf q = 2 * (q - 1)
+
+abbrev pub rightOf : ℕ → ℕ
+rightOf q = 2 * (q - 1) + 1
+
+module _ (m : ℕ) (g six : List ℕ) (l : 1 ≤ m) (u : m ≤ 8) where
+  byte-there : (i k : ℕ) → i ≡ 4 * (m - 1) + k → k < 4 → getD (groupAfter m g six) i 0 ≡ getD six k 0
+  unfolding groupAfter channelByte
+  byte-there i k e h =
+      let place : i / 4 + 1 ≡ m = omega arith in
+      let byte : i % 4 ≡ k = omega arith in
+      getD-tab 32 (channelByte m g six) i 0 (omega arith) ∙ at-comes m (i / 4 + 1) (getD g i 0) (getD six (i % 4) 0) place
+      ∙ ap (λ (n : ℕ). getD six n 0) byte
+
+  pub bytes-placed : (getD (groupAfter m g six) (leftOf (2 * m - 1)) 0 ≡ getD six 0 0)
+      × (getD (groupAfter m g six) (rightOf (2 * m - 1)) 0 ≡ getD six 1 0)
+      × (getD (groupAfter m g six) (leftOf (2 * m)) 0 ≡ getD six 2 0)
+      × (getD (groupAfter m g six) (rightOf (2 * m)) 0 ≡ getD six 3 0)
+  bytes-placed =
+      (byte-there (leftOf (2 * m - 1)) 0 (omega arith) (omega arith), byte-there (rightOf (2 * m - 1)) 1 (omega arith) (omega arith), byte-there (leftOf (2 * m)) 2 (omega arith) (omega arith), byte-there (rightOf (2 * m)) 3 (omega arith) (omega arith))
 
 none-left : (dropped : Bool) → _≡_ {A = ℕ} (cond dropped 0 0) 0
 none-left true = refl
@@ -124,6 +152,10 @@ module _ (s : Service) (six : List ℕ) (h : InRange s) where
   pub separator-found : s .position ≡ 8 → s .stage ≡ 0 → separates (takeSix s six .group) ≡ true → served s six sync1 .next .stage ≡ 1
   unfolding takeSync takeSix stageAfter
   separator-found p t z = rw (served-first, z, p, t, open-false 8 (inr refl))
+
+  pub no-separator : s .position ≡ 8 → s .stage ≡ 0 → separates (takeSix s six .group) ≡ false → served s six sync1 .next .stage ≡ 0
+  unfolding takeSync takeSix stageAfter
+  no-separator p t z = rw (served-first, z, p, t, open-false 8 (inr refl))
 
   pub group-brings : s .position ≡ 8 → 0 < s .stage → s .stage < 8 → served s six sync1 .next .stage ≡ s .stage + 1
   unfolding takeSync takeSix stageAfter

@@ -26,7 +26,7 @@ use Rattle.service.specs.declared.Service.{Service}
 use Rattle.service.specs.declared.Served.{Served}
 use Rattle.service.specs.declared.sync.Kind.{Kind}
 use Rattle.service.specs.declared.sync.Kind.the-variants.{First, Second, Neither}
-use Rattle.service.proofs.Tests.{either-way}
+use Rattle.bits.proofs.Tests.{picked}
 use Rattle.service.proofs.Syncs.{open-below}
 use Rattle.service.proofs.Machine.{InRange, served-is}
 
@@ -77,7 +77,7 @@ accepted-moved s six k h =
 answer-either : (P : Served → Type 0) (s : Service) (six sync : List ℕ)
     → P (stepBy s (takeSix s six) (kindOf sync)) → P (refusedService s) → P (served s six sync)
 unfolding served
-answer-either P s six sync h k = either-way P (accepts s sync) (stepBy s (takeSix s six) (kindOf sync)) (refusedService s) h k
+answer-either P s six sync h k = picked P (accepts s sync) (stepBy s (takeSix s six) (kindOf sync)) (refusedService s) h k
 
 pub step-moved : (s : Service) (x : Step) → InRange s → Moved 1 s (stepped s x .next)
 unfolding refusedService

@@ -13,7 +13,7 @@ use lib.ListN.{length, drop, getD, drop-of-length-le}
 use lib.Seq.{drop-cons}
 use borrow.Author.Tests.{ltb-true, eqb-true, eq-eqb, ne-eqb}
 use Rattle.service.specs.Sync.{agree, isOpen}
-use Rattle.service.proofs.Tests.{both, both-left, both-right}
+use Rattle.bits.proofs.Tests.{both, both-left, both-right}
 
 module _ (a b : List ℕ) (i : ℕ) where
   pub agree-more : i < length a → i < length b → getD a i 0 ≡ getD b i 0 → agree (drop i a) (drop i b) ≡ agree (drop (i + 1) a) (drop (i + 1) b)

@@ -7,9 +7,9 @@ use lib.ListN.{length, getD, take}
 use Rattle.bits.specs.Table.{tabulate}
 use Rattle.bits.specs.Bits.{bitAt, bitsOf}
 use Rattle.bits.proofs.Table.{tab-more, tab-done}
+use Rattle.bits.proofs.Bits.{bitsOf-at}
 use Rattle.frame.specs.Frame.{placeOf, deinterleave}
 use Rattle.frame.specs.Read.{blockOf}
-use Rattle.frame.proofs.Rows.{bitsOf-at}
 use borrow.Author.Needs.{needs}
 use Rattle.frame.proofs.block_of.Statement.{statement}
 use Rattle.frame.proofs.block_of.Tie as tie

@@ -5,8 +5,9 @@ use native.Mathlib.Omega.{arith}
 use lib.ListN.{getD}
 use Rattle.bits.specs.Table.{tabulate}
 use Rattle.bits.specs.Bits.{bitAt, ones}
+use Rattle.bits.proofs.Bits.{bitAt-below, bit-below}
+use Rattle.bits.proofs.Ones.{ones-more}
 use Rattle.frame.specs.Read.{wrongSync}
-use Rattle.frame.proofs.Rows.{ones-more, bitAt-below, bit-below}
 use Rattle.frame.proofs.Sync.{below-sync, wrong-counted}
 use Rattle.code.specs.Words.{distance}
 use Rattle.frame.specs.Frame.{syncWord}

@@ -1,7 +1,10 @@
 -- `programme::write` meets its contract. Assumes nothing.
-use mathlib.Core.Path.{sym}
+use mathlib.Core.Path.{sym, ap, _∙_}
+use mathlib.Core.List.{[], _∷_}
+use Prim.Native.Nat.{ℕ}
 use native.Mathlib.Omega.{arith}
 use borrow.Author.Tests.{le-leb, lt-leb}
+use Rattle.bits.specs.Answer.{accepted}
 use Rattle.programme.specs.Byte.{writeByte}
 use Rattle.programme.proofs.Byte.{in-range, made-sum}
 use borrow.Author.Needs.{needs}
@@ -46,8 +49,9 @@ add-t8 c = search needs
 returns-4 : tie.Need-returns-4
 returns-4 c =
     let a = c .before .before .before .before .args in
-    rw (c .ones-of .ensures, made-sum (a .kind) (a .music) (a .mode) (omega arith) (omega arith) (omega arith))
-    (sym (in-range (a .kind) (a .music) (a .mode) (omega arith) (omega arith) (omega arith)))
+    rw (c .ones-of .ensures)
+    (ap (λ (b : ℕ). accepted (b ∷ [])) (made-sum (a .kind) (a .music) (a .mode) (omega arith) (omega arith) (omega arith))
+    ∙ sym (in-range (a .kind) (a .music) (a .mode) (omega arith) (omega arith) (omega arith)))
 
 pub write-spec : {M : Type 1} → statement M
 write-spec =

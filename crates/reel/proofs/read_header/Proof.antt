@@ -1,10 +1,11 @@
 -- `reel::read_header` meets its contract. Assumes nothing.
-use mathlib.Core.Path.{_≡_, sym}
-use mathlib.Core.List.{List}
+use mathlib.Core.Path.{_≡_, sym, ap₂}
+use mathlib.Core.List.{List, [], _∷_}
 use Prim.Native.Nat.{ℕ}
 use native.Mathlib.Omega.{arith}
 use borrow.Author.Tests.{lt-leb, le-leb}
 use lib.ListN.{length}
+use Rattle.bits.specs.Answer.{accepted}
 use Rattle.reel.specs.Header.{numberAt, goodHeader, headerOf}
 use borrow.Author.Needs.{needs}
 use Rattle.reel.proofs.read_header.Statement.{statement}
@@ -49,9 +50,9 @@ returns-2 c =
       le-leb 16 (length (c .before .before .before .before .before .before .before .before .args .bytes .now)) (omega arith),
       tested (c .before),
       c .if2 .taken,
-      c .before .before .before .before .before .number-at .ensures,
-      c .before .before .before .before .number-at2 .ensures,
     )
+    (ap₂ (λ (count offset : ℕ). accepted (count ∷ offset ∷ []))
+    (c .before .before .before .before .before .number-at .ensures) (c .before .before .before .before .number-at2 .ensures))
 
 returns-3 : tie.Need-returns-3
 unfolding headerOf

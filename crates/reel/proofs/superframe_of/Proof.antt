@@ -1,9 +1,9 @@
 -- `reel::superframe_of` meets its contract. Assumes nothing.
-use mathlib.Core.Path.{_≡_, sym, _∙_}
+use mathlib.Core.Path.{_≡_, sym, ap, _∙_}
 use Prim.Native.Nat.{ℕ, _+_, _-_, _*_, _≤_}
 use native.Mathlib.Omega.{arith}
 use borrow.Author.Tests.{ne-eqb, eq-eqb}
-use lib.ListN.{length}
+use lib.ListN.{length, take, drop}
 use Rattle.reel.specs.Run.{superframeBytes, superframe, partNumber, partOf}
 use Rattle.reel.proofs.Run.{run-lengths, part-there}
 use borrow.Author.Needs.{needs}
@@ -59,7 +59,8 @@ unfolding partOf superframe
 returns-2 c =
     let a = c .before .before .before .before .args in
     let size : (a .k - 1) * superframeBytes + superframeBytes - (a .k - 1) * superframeBytes ≡ superframeBytes = omega arith in
-    rw (size, eq-eqb (partNumber (a .run .now) (a .k)) 0 (sym (c .before .before .superframe-number-of .ensures) ∙ c .before .if1 .left))
+    rw (eq-eqb (partNumber (a .run .now) (a .k)) 0 (sym (c .before .before .superframe-number-of .ensures) ∙ c .before .if1 .left))
+    (ap (λ (n : ℕ). take n (drop ((a .k - 1) * superframeBytes) (a .run .now))) size)
 
 pub superframe-of-spec : {M : Type 1} → statement M
 superframe-of-spec =

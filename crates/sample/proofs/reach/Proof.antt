@@ -25,8 +25,11 @@ module _ (s : tie.Start) where
   below : ltZ (toZ w16 (ofZ w16 (s .args .z))) (pos 0) ≡ true → negsuc 0 -ℤ toZ w16 (ofZ w16 (s .args .z)) ≡ pos (mag (s .args .z))
   below t = rw read (minus-one (s .args .z) (test t))
 
+  room : ltZ (toZ w16 (ofZ w16 (s .args .z))) (pos 0) ≡ true → SFits w16 (negsuc 0 -ℤ toZ w16 (ofZ w16 (s .args .z)))
+  room t = rw (below t) sized
+
 sub-result : tie.Need-sub-result
-sub-result c = rw (below (c .before) (c .if1 .taken)) (sized (c .before))
+sub-result c = room (c .before) (c .if1 .taken)
 
 cast-result : tie.Need-cast-result
 cast-result c =

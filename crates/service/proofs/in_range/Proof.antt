@@ -6,11 +6,11 @@ use Rattle.service.proofs.in_range.Tie as tie
 
 returns : tie.Need-returns
 unfolding inRange
-returns c = rw (le-leb _ _ (c .before .if1 .taken))
+returns c = rw (le-leb _ 8 (c .before .if1 .taken))
 
 returns-2 : tie.Need-returns-2
 unfolding inRange
-returns-2 c = rw (lt-leb _ _ (c .if1 .left))
+returns-2 c = rw (lt-leb _ 8 (c .if1 .left))
 
 pub in-range-spec : {M : Type 1} → statement M
 in-range-spec = tie.close (tie.spec returns returns-2)

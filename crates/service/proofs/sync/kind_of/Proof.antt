@@ -1,6 +1,7 @@
 -- `service::sync::kind_of` meets its contract. Assumes nothing.
-use mathlib.Core.Path.{sym, _∙_}
-use Rattle.service.specs.Sync.{kindOf}
+use mathlib.Core.Path.{_≡_, sym, _∙_}
+use mathlib.Core.Bool.{true}
+use Rattle.service.specs.Sync.{agree, sync1, kindOf}
 use borrow.Author.Needs.{needs}
 use Rattle.service.proofs.sync.kind_of.Statement.{statement}
 use Rattle.service.proofs.sync.kind_of.Tie as tie
@@ -10,7 +11,9 @@ equal-requires c κs = search needs
 
 returns : tie.Need-returns
 unfolding kindOf
-returns c = rw (sym (c .before .equal .ensures) ∙ c .if1 .taken)
+returns c =
+    let same : agree (c .before .before .args .sync) sync1 ≡ true = sym (c .before .equal .ensures) ∙ c .if1 .taken in
+    rw same
 
 equal-requires-2 : tie.Need-equal-requires-2
 equal-requires-2 c κs = search needs

@@ -1,5 +1,5 @@
 -- `service::sync::next_position` meets its contract: one case for each kind of sync. Assumes nothing.
-use mathlib.Core.Path.{sym, _∙_}
+use mathlib.Core.Path.{refl, sym, _∙_}
 use Rattle.service.proofs.Syncs.{open-below}
 use borrow.Author.Needs.{needs}
 use Rattle.service.proofs.sync.next_position.Statement.{statement}
@@ -21,7 +21,7 @@ enum-told-3 : tie.Need-enum-told-3
 enum-told-3 c = search needs
 
 returns : tie.Need-returns
-returns c = search needs
+returns c = rw (c .enum-told .given .1) refl
 
 returns-2 : tie.Need-returns-2
 returns-2 c = rw (c .before .before .enum-told2 .given .1, sym (c .before .is-open .ensures) ∙ c .if1 .taken)
@@ -30,7 +30,7 @@ returns-3 : tie.Need-returns-3
 returns-3 c = rw (c .before .before .enum-told2 .given .1, sym (c .before .is-open .ensures) ∙ c .if1 .left)
 
 returns-4 : tie.Need-returns-4
-returns-4 c = search needs
+returns-4 c = rw (c .enum-told3 .given .1) refl
 
 pub next-position-spec : {M : Type 1} → statement M
 next-position-spec =
