@@ -26,7 +26,7 @@ use Rattle.bits.proofs.Table.{getD-tab, tab-ext, tab-getD}
 use Rattle.bits.proofs.Tests.{both-true}
 use Rattle.bits.proofs.Bits.{length-bitsOf, length-bytesOf, bytes-back, bits-back, bits-below, below-bits}
 use Rattle.frame.specs.Frame.{syncWord, serviceIn, interleave, block, frameBits, frameBytes, deinterleave, blockAt, bitAtPlace}
-use Rattle.frame.specs.Read.{wrongSync, serviceRead, blockOf, blocksIn, nothing, found, blocksOf, readFrame, serviceCleared}
+use Rattle.frame.specs.Read.{wrongSync, mostWrong, serviceRead, blockOf, blocksIn, nothing, found, blocksOf, readFrame, serviceCleared}
 use Rattle.frame.specs.Write.{goodValues, Written}
 use Rattle.frame.specs.declared.FrameRead.{FrameRead}
 use Rattle.frame.specs.declared.Letter.{Letter}
@@ -68,7 +68,7 @@ module _ (letter : Letter) (bytes bits : List ℕ) (sized : length bytes ≡ 40)
       let none = sync-right letter bytes right in
       rw (
         eq-eqb (length bytes) 40 sized,
-        le-leb (wrongSync letter bytes) 0 (omega arith),
+        le-leb (wrongSync letter bytes) mostWrong (omega arith),
         sent-read letter bytes,
         block-there bytes 0 (omega arith),
         block-there bytes 1 (omega arith),
@@ -135,15 +135,15 @@ cleared A bytes h = ap (λ (x : ℕ). bytesOf (set (bitsOf bytes) 11 x)) (sym (b
 cleared B bytes h = refl
 
 module _ (letter : Letter) (bytes : List ℕ) (taken : readFrame letter bytes .number ≡ 0) where
-  tests : (eqb (length bytes) 40 ≡ true) × (leb (wrongSync letter bytes) 0 ≡ true)
+  tests : (eqb (length bytes) 40 ≡ true) × (leb (wrongSync letter bytes) mostWrong ≡ true)
   unfolding readFrame nothing
   tests =
-      read-ways (eqb (length bytes) 40) (leb (wrongSync letter bytes) 0) (found (serviceRead letter bytes) (blocksIn bytes)) (nothing 3) (nothing 1)
+      read-ways (eqb (length bytes) 40) (leb (wrongSync letter bytes) mostWrong) (found (serviceRead letter bytes) (blocksIn bytes)) (nothing 3) (nothing 1)
       (suc-ne-zero 2) (suc-ne-zero 0) taken
 
   pub read-zero : (length bytes ≡ 40) × (wrongSync letter bytes ≡ 0)
   read-zero =
-      let none : wrongSync letter bytes ≤ 0 = leb-true (wrongSync letter bytes) 0 (tests .1) in
+      let none : wrongSync letter bytes ≤ mostWrong = leb-true (wrongSync letter bytes) mostWrong (tests .1) in
       (eqb-true (length bytes) 40 (tests .0), omega arith)
 
   pub read-found : readFrame letter bytes ≡ found (serviceRead letter bytes) (blocksIn bytes)

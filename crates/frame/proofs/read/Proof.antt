@@ -2,7 +2,7 @@
 use native.Mathlib.Omega.{arith}
 use borrow.Author.Tests.{eq-eqb, ne-eqb, le-leb, lt-leb}
 use lib.ListN.{length}
-use Rattle.frame.specs.Read.{wrongSync, readFrame}
+use Rattle.frame.specs.Read.{wrongSync, mostWrong, readFrame}
 use borrow.Author.Needs.{needs}
 use Rattle.frame.proofs.read.Statement.{statement}
 use Rattle.frame.proofs.read.Tie as tie
@@ -27,7 +27,7 @@ returns-2 c =
     let wrong = c .before .before .sync-errors .ensures in
     rw (
       eq-eqb (length (a .bytes .now)) 40 (omega arith),
-      lt-leb (wrongSync (a .letter) (a .bytes .now)) 0 (omega arith),
+      lt-leb (wrongSync (a .letter) (a .bytes .now)) mostWrong (omega arith),
     )
     (c .refused2 .ensures)
 
@@ -54,7 +54,7 @@ returns-3 c =
     let wrong = four .before .sync-errors .ensures in
     rw (
       eq-eqb (length (a .bytes .now)) 40 (omega arith),
-      le-leb (wrongSync (a .letter) (a .bytes .now)) 0 (omega arith),
+      le-leb (wrongSync (a .letter) (a .bytes .now)) mostWrong (omega arith),
       c .before .before .before .before .service-of .ensures,
       c .before .before .before .block-of .ensures,
       c .before .before .block-of2 .ensures,
