@@ -3,7 +3,7 @@
 --     bench-holds       THE STATEMENT
 -- Assumes nothing.
 use mathlib.Core.Path.{_≡_, refl, ap, _∙_}
-use mathlib.Core.List.{List, [], _∷_, _++_}
+use mathlib.Core.List.{[], _∷_, _++_}
 use Rattle.bits.specs.Digits.{value, digits}
 use Rattle.bits.specs.Bits.{ones}
 use Rattle.bits.specs.Table.{tabulate}
@@ -15,7 +15,7 @@ use Rattle.reading.proofs.Vectors.{all-ones, three, two-cleared}
 use Rattle.sample.specs.Sample.{fits, isCode, codeOf, sampleOf, codeAnswer, sampleAnswer}
 use Rattle.scale.proofs.Bench.{factors-01, factors-02}
 use Rattle.programme.specs.Byte.{made, writeByte}
-use Rattle.bench.specs.Cases.{row, isIn, ones-at, withoutOnes, wordOf44, cleared, Holds, bench, All}
+use Rattle.bench.specs.Cases.{row, isIn, ones-at, withoutOnes, cleared, Holds, bench, All}
 
 -- the word of sound bit 44 with its first two ones cleared, one of them a sound bit and one a check bit
 cleared-is : cleared ≡ zeros 44 ++ (0 ∷ 0 ∷ 0 ∷ 0 ∷ 0 ∷ 0 ∷ 0 ∷ 0 ∷ 1 ∷ 1 ∷ 1 ∷ 0 ∷ 1 ∷ 0 ∷ 1 ∷ 0 ∷ 0 ∷ 0 ∷ 1 ∷ [])

@@ -1,9 +1,7 @@
 -- Any two results that meet a promise are the same: for each public function, `FUNCTION-unique`. Assumes nothing.
-use mathlib.Core.Path.{_≡_, refl, sym, ap, _∙_}
-use mathlib.Core.List.{List, [], _∷_}
+use mathlib.Core.Path.{_≡_, refl, sym}
+use mathlib.Core.List.{[], _∷_}
 use Prim.Native.Nat.{ℕ}
-use lib.ListN.{getD}
-use Rattle.bits.specs.Answer.{Answer, accepted, refused}
 use Rattle.bits.proofs.Answer.{accepted-same, never-both}
 use Rattle.bits.proofs.Unique.{same}
 use Rattle.programme.specs.declared.Name.{Name}

@@ -8,7 +8,7 @@
 --     firstOf run n                   the first n superframes, one behind the other
 --     superframes-whole               all of them are the run: nothing is lost between them
 -- Assumes nothing.
-use mathlib.Core.Path.{_≡_, refl, sym, ap, ap₂, _∙_, subst}
+use mathlib.Core.Path.{_≡_, refl, sym, ap, _∙_}
 use mathlib.Core.Bool.{Bool, true, false, cond, _&&_}
 use mathlib.Core.List.{List, [], _∷_, _++_}
 use Prim.Native.Nat.{ℕ, zero, suc, _+_, _-_, _*_, _/_, _%_, _<_, _≤_}
@@ -16,8 +16,8 @@ use native.Mathlib.Nat.{suc-ne-zero}
 use native.Mathlib.Omega.{arith}
 use borrow.Author.Tests.{eq-eqb, le-leb, lt-leb, eqb-true, leb-true}
 use lib.Dec.{eqb, leb}
-use lib.ListN.{length, getD, take, drop, length-take, length-drop}
-use lib.Seq.{take-add, take-all, length-take-le}
+use lib.ListN.{length, getD, take, length-take, length-drop}
+use lib.Seq.{take-add, take-all}
 use Rattle.bits.specs.Answer.{accepted, refused}
 use Rattle.bits.proofs.Answer.{by-test, by-test-refused}
 use Rattle.bits.proofs.Tests.{both-true}

@@ -6,7 +6,7 @@
 -- Assumes nothing.
 use mathlib.Core.Path.{_≡_, refl, sym, ap, ap₂, _∙_}
 use mathlib.Core.List.{List, [], _∷_, _++_, append-assoc, append-nil}
-use Prim.Native.Nat.{ℕ, zero, suc, _+_, _*_, _%_, _<_}
+use Prim.Native.Nat.{ℕ, zero, suc, _+_, _<_}
 use native.Mathlib.Nat.{suc-inj, suc-ne-zero}
 use native.Mathlib.Omega.{arith}
 use lib.ListN.{length, length-append}
@@ -16,8 +16,8 @@ use Rattle.bits.proofs.Table.{length-snoc}
 use Rattle.remainder.specs.Polynomial.{_⊕_, zeros, times}
 use Rattle.remainder.specs.Remainder.{takeOff, step, divide, remainder}
 use Rattle.remainder.specs.Divided.{product, Divided}
-use Rattle.remainder.proofs.Sum.{cons, length-⊕, below-⊕, ⊕-append, ⊕-assoc, ⊕-comm, ⊕-zeros, zeros-⊕, ⊕-self, length-zeros, below-zeros, length-times, times-zero}
-use Rattle.remainder.proofs.Division.{length-step, below-step, length-divide, below-divide, length-remainder, below-remainder, remainder-⊕, remainder-zero, remainder-zeros, remainder-more, remainder-short}
+use Rattle.remainder.proofs.Sum.{cons, length-⊕, ⊕-append, ⊕-assoc, ⊕-comm, ⊕-zeros, zeros-⊕, ⊕-self, length-zeros, below-zeros, length-times, times-zero}
+use Rattle.remainder.proofs.Division.{length-step, below-step, length-remainder, below-remainder, remainder-⊕, remainder-zero, remainder-zeros, remainder-more, remainder-short}
 
 module _ (g : List ℕ) where
   shifted : (x : ℕ) (q : List ℕ) → length (times x (1 ∷ g) ++ zeros (length q)) ≡ suc (length q + length g)

@@ -6,8 +6,8 @@
 -- Assumes nothing.
 use mathlib.Core.Path.{_≡_, sym, ap, _∙_, subst}
 use mathlib.Core.Bool.{true}
-use Prim.Native.Nat.{ℕ, zero, suc, _+_, _-_, _*_, _/_, _%_, _^_, _<_, _≤_}
-use native.Mathlib.Nat.{mod-lt, mod-eq-of-lt, mod-mod-of-dvd, dvd-mul-left, mul-mod-left, mul-add-mod-self-left, add-mul, one-mul, mul-pos, div-add-mod', div-lt-iff-lt-mul, div-eq-of-lt-le, not-suc-le-zero, mul-comm}
+use Prim.Native.Nat.{ℕ, suc, _+_, _-_, _*_, _/_, _%_, _^_, _<_, _≤_}
+use native.Mathlib.Nat.{mod-lt, mod-eq-of-lt, mod-mod-of-dvd, dvd-mul-left, mul-mod-left, mul-add-mod-self-left, add-mul, one-mul, mul-pos, div-add-mod', div-lt-iff-lt-mul, div-eq-of-lt-le, mul-comm}
 use native.Mathlib.Omega.{arith}
 use lib.Dec.{ltb}
 use lib.ListN.{drop, replicate}
