@@ -74,8 +74,8 @@ unfolding takeNumber countsOf
 sync-number s sf samples marks e =
     either-way (lengthsFit (length sf) (length samples) (length marks))
     (λ t. either-way (stateInRange s)
-      (λ u. rw (superframe-fits (length sf) (length samples) (length marks) t, t, u))
-      (λ u. let z : takeNumber s sf samples marks ≡ 2 = rw (t, u) in absurd (⊎-elim (λ e. omega arith) (λ e. omega arith) e)))
+    (λ u. rw (superframe-fits (length sf) (length samples) (length marks) t, t, u))
+    (λ u. let z : takeNumber s sf samples marks ≡ 2 = rw (t, u) in absurd (⊎-elim (λ e. omega arith) (λ e. omega arith) e)))
     (λ t. let z : takeNumber s sf samples marks ≡ 1 = rw t in absurd (⊎-elim (λ e. omega arith) (λ e. omega arith) e))
 
 same-counts : (n : ℕ) (s : State) (sf : List ℕ) →
