@@ -19,7 +19,7 @@ use Rattle.bits.specs.Bits.{bitAt, bitsOf, eightAt, byteAt, bytesOf}
 use Rattle.bits.proofs.Table.{getD-tab, tab-ext}
 use Rattle.frame.specs.Frame.{serviceIn, placeOf, deinterleave}
 use Rattle.frame.specs.Read.{serviceRead, blockOf}
-use Rattle.frame.proofs.Rows.{bitsOf-at}
+use Rattle.bits.proofs.Bits.{bitsOf-at}
 use Rattle.tape.specs.Tape.{frameAt, blockIn}
 use Rattle.beside.specs.Beside.{extraBit, extraOf, factorOr, factorRead, serviceBit, sixOf}
 use Rattle.tape.proofs.Tape.{block-there}

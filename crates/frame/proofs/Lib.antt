@@ -1,4 +1,3 @@
-pub mod Rows
 pub mod Interleave
 pub mod Parts
 pub mod Sync

@@ -17,14 +17,13 @@ use Rattle.bits.specs.Digits.{Below}
 use Rattle.bits.specs.Bits.{areBits}
 use Rattle.bits.proofs.Tests.{either-way}
 use Rattle.bits.proofs.Digits.{below-drop, below-tab}
-use Rattle.bits.proofs.Bits.{bits-below, below-bits}
+use Rattle.bits.proofs.Bits.{bits-below, below-bits, bit-below, bitAt-below}
 use Rattle.scale.specs.Reading.{majority, nearest, readScale}
 use Rattle.scale.proofs.Majority.{length-majority}
 use Rattle.scale.proofs.Nearest.{pair-within, nearest-hit, nearest-miss, near-or-none}
 use Rattle.scale.proofs.Scale.{extra-reading}
 use Rattle.frame.specs.Frame.{serviceIn}
 use Rattle.frame.specs.Read.{serviceRead}
-use Rattle.frame.proofs.Rows.{bit-below, bitAt-below}
 use Rattle.tape.specs.Tape.{frameAt, blockIn}
 use Rattle.tape.proofs.Tape.{block-bits}
 use Rattle.beside.specs.Beside.{extraBit, extraBits, extraOf, factorOr, sideOf, factorRead, serviceBit, serviceBits, syncOf, sixAndSync}

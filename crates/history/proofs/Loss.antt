@@ -14,7 +14,7 @@ use Rattle.bits.specs.Table.{every}
 use Rattle.bits.specs.Bits.{allBelow}
 use Rattle.service.specs.Service.{searchingService, inRange}
 use Rattle.service.specs.declared.Service.{Service}
-use Rattle.service.proofs.Tests.{both, both-left, both-right}
+use Rattle.bits.proofs.Tests.{both, both-left, both-right}
 use Rattle.superframe.specs.State.{missing, Factors, factorsOf, serviceOf, joinedState, freshState, factorsInRange, stateInRange, lostFactors, lostState, lostWith, servicedWith}
 use Rattle.superframe.specs.declared.state.State.{State}
 

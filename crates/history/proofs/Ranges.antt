@@ -12,12 +12,11 @@ use Prim.Native.Nat.{ℕ}
 use lib.Dec.{eqb}
 use Rattle.bits.specs.Table.{tabulate}
 use Rattle.bits.specs.Bits.{allBelow}
-use Rattle.bits.proofs.Tests.{either-way}
+use Rattle.bits.proofs.Tests.{either-way, both, both-right}
 use Rattle.bits.proofs.Digits.{below-tab}
 use Rattle.bits.proofs.Bits.{below-all}
 use Rattle.service.specs.Service.{inRange, served}
 use Rattle.service.specs.Run.{Step, stepped}
-use Rattle.service.proofs.Tests.{both, both-right}
 use Rattle.service.proofs.Machine.{InRange, in-range-true, in-range-fact}
 use Rattle.service.proofs.Progress as progress
 use Rattle.beside.specs.Beside.{factorRead, programmesOf, sixAndSync}

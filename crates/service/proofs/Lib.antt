@@ -1,4 +1,3 @@
-pub mod Tests
 pub mod Syncs
 pub mod Unique
 pub mod Machine

@@ -1,3 +1,4 @@
 pub mod Tape
 pub mod Samples
+pub mod Carried
 pub mod Unique

@@ -22,7 +22,7 @@ use Rattle.bits.specs.Bits.{areBits, bitsOf}
 use Rattle.bits.specs.Answer.{accepted}
 use Rattle.bits.proofs.Table.{length-tab, getD-tab, tab-ext}
 use Rattle.bits.proofs.Digits.{below-tab}
-use Rattle.bits.proofs.Bits.{below-bits}
+use Rattle.bits.proofs.Bits.{below-bits, bit-below, below-bitsOf}
 use Rattle.bits.proofs.Answer.{accepted-same, never-both}
 use Rattle.bits.proofs.Every.{each-every, every-fails}
 use Rattle.reading.specs.Search.{reading}
@@ -31,7 +31,6 @@ use Rattle.block.specs.declared.BlockReading.{BlockReading}
 use Rattle.block.specs.declared.BlockReading.the-variants.{Clean, Mended, Bad, OutOfRange}
 use Rattle.frame.specs.Frame.{placeOf, deinterleave}
 use Rattle.frame.specs.Read.{blockOf, mostWrong}
-use Rattle.frame.proofs.Rows.{bit-below, below-bitsOf}
 use Rattle.tape.specs.Tape.{frameAt, wrongAt, synced, blockOnTape, readings, tapeOf, blockIn, readingIn, markOf, blockMark, howMany, tallied, blocksOf}
 use Rattle.tape.specs.Marks.{toldMark, rowMark, marksIn, tallyIn, blocksIn}
 
