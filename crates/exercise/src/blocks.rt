@@ -13,7 +13,7 @@ fn write(line: &[u8], at: usize, out: &mut [u8], to: usize) -> usize {
         return 0;
     }
     let codes = [first.value, second.value, third.value, fourth.value];
-    let written = block::write(codes, [left.value, right.value]);
+    let written = block_writer::write(codes, [left.value, right.value]);
     let bits = written.bits;
     let end = text::put_number(out, to, written.number as u64);
     if written.number != 0 {
@@ -58,7 +58,7 @@ fn codes(line: &[u8], at: usize, out: &mut [u8], to: usize) -> usize {
     if !words::ended(line, next) {
         return 0;
     }
-    let answer = block::codes(bits);
+    let answer = block_codes::codes_of(bits);
     let codes = answer.codes;
     let extra = answer.extra;
     let end = text::put_number(out, to, answer.number as u64);

@@ -10,9 +10,9 @@ use borrow.Author.Tests.{le-leb}
 use lib.ListN.{getD}
 use Rattle.bits.specs.Answer.{accepted}
 use Rattle.sample.specs.Sample.{sampleOf}
-use Rattle.block.specs.Layout.{codeAt}
 use Rattle.block.specs.Read.{bad, saidOf, handedOn, said, ordinary, protected}
 use Rattle.block.proofs.Demand.{second}
+use Rattle.block_codes.specs.Codes.{codeAt}
 use Rattle.reading.specs.Search.{reading}
 use Rattle.frame.specs.Read.{blockOf}
 use Rattle.tape.specs.Tape.{frameAt, blockIn, readingIn, blockMark, markOf}

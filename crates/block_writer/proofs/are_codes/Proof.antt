@@ -1,4 +1,4 @@
--- `block::are_codes` meets its contract: all passed so far are codes. Assumes nothing.
+-- `block_writer::are_codes` meets its contract: all passed so far are codes. Assumes nothing.
 use mathlib.Core.Path.{_≡_, refl, sym, ap, _∙_}
 use mathlib.Core.Bool.{true}
 use Prim.Native.Nat.{_-_, _≤_}
@@ -13,8 +13,8 @@ use Rattle.bits.specs.Table.{every}
 use Rattle.bits.proofs.Every.{every-take, every-fails}
 use Rattle.sample.specs.Sample.{isCode}
 use borrow.Author.Needs.{needs}
-use Rattle.block.proofs.are_codes.Statement.{statement}
-use Rattle.block.proofs.are_codes.Tie as tie
+use Rattle.block_writer.proofs.are_codes.Statement.{statement}
+use Rattle.block_writer.proofs.are_codes.Tie as tie
 
 abbrev Inv-loop : tie.InvT-loop
 Inv-loop codes i₀ i = (i ≤ 4) × (every isCode (take i codes) ≡ true)

@@ -1,11 +1,11 @@
--- `block::in_range` meets its contract. Assumes nothing.
+-- `block_writer::in_range` meets its contract. Assumes nothing.
 use mathlib.Core.Path.{_≡_, sym, _∙_}
 use mathlib.Core.Bool.{true, false}
 use Rattle.bits.specs.Table.{every}
 use Rattle.sample.specs.Sample.{isCode}
 use borrow.Author.Needs.{needs}
-use Rattle.block.proofs.in_range.Statement.{statement}
-use Rattle.block.proofs.in_range.Tie as tie
+use Rattle.block_writer.proofs.in_range.Statement.{statement}
+use Rattle.block_writer.proofs.in_range.Tie as tie
 
 are-codes-requires : tie.Need-are-codes-requires
 are-codes-requires c κs = search needs

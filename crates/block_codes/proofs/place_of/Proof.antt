@@ -1,10 +1,10 @@
--- `block::place_of` meets its contract. Assumes nothing.
+-- `block_codes::place_of` meets its contract. Assumes nothing.
 use native.Mathlib.Omega.{arith}
 use borrow.Author.Tests.{lt-ltb, le-ltb}
 use Rattle.block.specs.Layout.{placeOf}
 use borrow.Author.Needs.{needs}
-use Rattle.block.proofs.place_of.Statement.{statement}
-use Rattle.block.proofs.place_of.Tie as tie
+use Rattle.block_codes.proofs.place_of.Statement.{statement}
+use Rattle.block_codes.proofs.place_of.Tie as tie
 
 mul-result : tie.Need-mul-result
 mul-result c = search needs

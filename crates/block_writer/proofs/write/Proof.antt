@@ -1,14 +1,14 @@
--- `block::write` meets its contract. Assumes nothing.
+-- `block_writer::write` meets its contract. Assumes nothing.
 use mathlib.Core.Path.{_≡_, sym, _∙_}
 use mathlib.Core.Bool.{true, false, _&&_}
 use borrow.Author.Tests.{not-true, not-false}
 use Rattle.bits.specs.Table.{every}
 use Rattle.bits.specs.Bits.{areBits}
 use Rattle.sample.specs.Sample.{isCode}
-use Rattle.block.specs.Layout.{writtenBlock}
+use Rattle.block_writer.specs.Written.{writtenBlock}
 use borrow.Author.Needs.{needs}
-use Rattle.block.proofs.write.Statement.{statement}
-use Rattle.block.proofs.write.Tie as tie
+use Rattle.block_writer.proofs.write.Statement.{statement}
+use Rattle.block_writer.proofs.write.Tie as tie
 
 in-range-requires : tie.Need-in-range-requires
 in-range-requires c κs = search needs

@@ -29,11 +29,13 @@ use Rattle.code.proofs.Words.{encode-word}
 use Rattle.sample.specs.Sample.{isCode}
 use Rattle.sample.specs.Pattern.{codeBits, bitsCode}
 use Rattle.sample.proofs.Patterns.{signed-inside, code-bits-back, bits-code-back, length-codeBits}
-use Rattle.block.specs.Layout.{sound, rest, blockOf, fourteen, placeOf, codeAt, codesAt, extraAt, writtenBlock, codesOf}
+use Rattle.block.specs.Layout.{sound, rest, blockOf, fourteen, placeOf}
 use Rattle.block.specs.Read.{clean, protected, saidOf, handedOn}
 use Rattle.block.specs.Demand.{IsBlock}
 use Rattle.block.proofs.Places.{length-sound, below-sound, sound-at, length-rest, below-rest, rest-at, length-63, length-block, at-sound, at-rest, length-fourteen, below-fourteen, fourteen-at}
 use Rattle.block.proofs.Demand.{heard, clean-hands, clean-word, word-clean}
+use Rattle.block_codes.specs.Codes.{codeAt, codesAt, extraAt, codesOf}
+use Rattle.block_writer.specs.Written.{writtenBlock}
 
 -- ---- what is written
 pub written-is : (codes : List ℤ) (extra : List ℕ) → every isCode codes ≡ true → areBits extra ≡ true → writtenBlock codes extra ≡ record { number = 0; bits = blockOf codes extra }

@@ -1,4 +1,4 @@
--- `block::sound_of` meets its contract. Assumes nothing.
+-- `block_writer::sound_of` meets its contract. Assumes nothing.
 use mathlib.Core.Path.{_≡_, refl, ap, _∙_}
 use Prim.Native.Nat.{_-_, _/_, _%_, _≤_}
 use native.Mathlib.Omega.{arith}
@@ -8,11 +8,11 @@ use Rattle.sample.specs.Pattern.{codeBits}
 use mir.Syntax.{w16}
 use mir.ValLaws.{toZ-ofZ}
 use Rattle.bits.proofs.Table.{toward, arrived}
 use Rattle.block.specs.Layout.{sound}
 use Rattle.block.proofs.Places.{length-sound, sound-at}
 use borrow.Author.Needs.{needs}
-use Rattle.block.proofs.sound_of.Statement.{statement}
-use Rattle.block.proofs.sound_of.Tie as tie
+use Rattle.block_writer.proofs.sound_of.Statement.{statement}
+use Rattle.block_writer.proofs.sound_of.Tie as tie
 
 abbrev Inv-loop : tie.InvT-loop
 Inv-loop codes out₀ j₀ out j = (j ≤ 44) × (length out ≡ 44) × (take j out ≡ take j (sound codes))

@@ -1,4 +1,4 @@
--- `block::pattern_at` meets its contract: the number that the bits so far make. Assumes nothing.
+-- `block_codes::pattern_at` meets its contract: the number that the bits so far make. Assumes nothing.
 use mathlib.Core.Path.{_≡_, refl, sym, ap, ap₂, _∙_}
 use Prim.Native.Nat.{ℕ, _+_, _-_, _*_, _^_, _<_, _≤_}
 use native.Mathlib.Nat.{pow-suc}
@@ -10,11 +10,11 @@ use lib.Seq.{take-all}
 use Rattle.bits.specs.Digits.{value, Below}
 use Rattle.bits.proofs.Digits.{value-take, below-getD}
 use Rattle.bits.proofs.Bits.{bits-below}
 use Rattle.block.specs.Layout.{fourteen}
 use Rattle.block.proofs.Places.{length-fourteen, fourteen-at}
 use borrow.Author.Needs.{needs}
-use Rattle.block.proofs.pattern_at.Statement.{statement}
-use Rattle.block.proofs.pattern_at.Tie as tie
+use Rattle.block_codes.proofs.pattern_at.Statement.{statement}
+use Rattle.block_codes.proofs.pattern_at.Tie as tie
 
 abbrev Inv-loop : tie.InvT-loop
 Inv-loop channel bits pattern₀ k₀ pattern k =

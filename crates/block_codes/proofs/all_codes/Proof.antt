@@ -1,4 +1,4 @@
--- `block::all_codes` meets its contract. Assumes nothing.
+-- `block_codes::all_codes` meets its contract. Assumes nothing.
 use mathlib.Core.Path.{_≡_, refl, ap, _∙_}
 use Prim.Native.Nat.{_-_, _≤_}
 use native.Mathlib.Omega.{arith}
@@ -8,10 +8,10 @@ use mir.ValLaws.{toZ-ofZ}
 use Rattle.bits.specs.Table.{tabulate}
 use Rattle.bits.proofs.Table.{tab-more, tab-done}
 use Rattle.sample.specs.Pattern.{signedOf, bitsCode}
-use Rattle.block.specs.Layout.{codeAt, codesAt}
+use Rattle.block_codes.specs.Codes.{codeAt, codesAt}
 use borrow.Author.Needs.{needs}
-use Rattle.block.proofs.all_codes.Statement.{statement}
-use Rattle.block.proofs.all_codes.Tie as tie
+use Rattle.block_codes.proofs.all_codes.Statement.{statement}
+use Rattle.block_codes.proofs.all_codes.Tie as tie
 
 abbrev Inv-loop : tie.InvT-loop
 Inv-loop bits out₀ channel₀ out channel = (channel ≤ 4) × (length out ≡ 4) × (take channel out ≡ tabulate channel (codeAt bits))

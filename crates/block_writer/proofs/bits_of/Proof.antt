@@ -1,4 +1,4 @@
--- `block::bits_of` meets its contract. Assumes nothing.
+-- `block_writer::bits_of` meets its contract. Assumes nothing.
 use mathlib.Core.Path.{_≡_, refl, ap, _∙_}
 use mathlib.Core.Logic.{⊎-elim}
 use mathlib.Core.List.{List}
@@ -13,11 +13,11 @@ use Rattle.bits.proofs.Table.{toward, arrived}
 use Rattle.remainder.specs.Remainder.{checkBits}
 use Rattle.code.specs.Generators.{blockGenerator}
 use Rattle.sample.specs.Pattern.{codeBits}
 use Rattle.block.specs.Layout.{blockOf}
 use Rattle.block.proofs.Places.{length-block, at-sound, at-check, at-rest, at-extra}
 use borrow.Author.Needs.{needs}
-use Rattle.block.proofs.bits_of.Statement.{statement}
-use Rattle.block.proofs.bits_of.Tie as tie
+use Rattle.block_writer.proofs.bits_of.Statement.{statement}
+use Rattle.block_writer.proofs.bits_of.Tie as tie
 
 abbrev Inv-loop : tie.InvT-loop
 Inv-loop codes extra protected check out₀ j₀ out j =
