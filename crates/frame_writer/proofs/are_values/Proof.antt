@@ -1,14 +1,14 @@
--- `frame::are_values` meets its contract. Assumes nothing.
+-- `frame_writer::are_values` meets its contract. Assumes nothing.
 use mathlib.Core.Path.{_≡_, sym, _∙_}
 use mathlib.Core.Bool.{true, and-true}
 use native.Mathlib.Omega.{arith}
 use borrow.Author.Tests.{le-leb, lt-leb, not-true, not-false}
 use Rattle.bits.specs.Table.{every}
 use Rattle.bits.specs.Bits.{areBits}
-use Rattle.frame.specs.Write.{goodValues}
+use Rattle.frame_writer.specs.Write.{goodValues}
 use borrow.Author.Needs.{needs}
-use Rattle.frame.proofs.are_values.Statement.{statement}
-use Rattle.frame.proofs.are_values.Tie as tie
+use Rattle.frame_writer.proofs.are_values.Statement.{statement}
+use Rattle.frame_writer.proofs.are_values.Tie as tie
 
 -- what the tests passed say
 first-bits : (c : tie.Else2) → areBits (c .before .before .before .before .args .t2) ≡ true
