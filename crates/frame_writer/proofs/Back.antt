@@ -23,7 +23,6 @@ use Rattle.bits.proofs.Tests.{both-true}
 use Rattle.bits.proofs.Bits.{length-bitsOf, length-bytesOf, bytes-back, bits-back, bits-below, bitsOf-at}
 use Rattle.frame.specs.Frame.{syncWord, serviceIn, interleave, block, frameBits, frameBytes, blockAt, bitAtPlace}
 use Rattle.frame.specs.Read.{wrongSync, serviceRead, blocksIn, found, blocksOf, readFrame}
-use Rattle.frame_writer.specs.Write.{goodValues, Written, serviceCleared}
 use Rattle.frame.specs.declared.Letter.{Letter}
 use Rattle.frame.specs.declared.Letter.the-variants.{A, B}
 use Rattle.frame.proofs.Interleave.{below-interleave}
@@ -31,6 +30,7 @@ use Rattle.frame.proofs.Parts.{below-parts}
 use Rattle.frame.proofs.Sync.{below-sync, sync-matches}
 use Rattle.frame.proofs.Places.{place-belongs, gathered-at, Sized, length-frame, frame-sync, frame-service, placed, blocks-gathered}
 use Rattle.frame.proofs.Reading.{below-sent, below-service, reads, read-zero, read-found, found-there, sized-found, found-bits}
+use Rattle.frame_writer.specs.Write.{goodValues, Written, serviceCleared}
 use Rattle.frame_writer.proofs.Writing.{number-none, success, written-is}
 
 pub sent-twice : (letter : Letter) (s : ℕ) → serviceIn letter (serviceIn letter s) ≡ serviceIn letter s
