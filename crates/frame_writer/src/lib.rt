@@ -64,19 +64,9 @@ fn are_values(
 ) -> bool
     ensures { λ r. ⌜ r ≡ goodValues service (first ∷ second ∷ third ∷ fourth ∷ []) ⌝ }
 {
-    if 1 < service {
-        return false;
-    }
-    if !bits::are_bits(&first) {
-        return false;
-    }
-    if !bits::are_bits(&second) {
-        return false;
-    }
-    if !bits::are_bits(&third) {
-        return false;
-    }
-    bits::are_bits(&fourth)
+    (service <= 1)
+        & (bits::are_bits(&first)
+            & (bits::are_bits(&second) & (bits::are_bits(&third) & bits::are_bits(&fourth))))
 }
 
 // The number that writing into a buffer of some size gives.
