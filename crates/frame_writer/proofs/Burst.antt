@@ -28,14 +28,15 @@ use Rattle.reading.specs.Demand.{sent}
 use Rattle.block.specs.Read.{Said, bad, saidWith, saidOf, handedOn}
 use Rattle.block.specs.Demand.{Sent, received}
 use Rattle.block.proofs.Demand.{third}
 use Rattle.frame.specs.Frame.{serviceIn, block, frameBits, placeOf, deinterleave}
 use Rattle.frame.specs.Read.{blockOf, found, readFrame}
-use Rattle.frame.specs.Write.{Written}
-use Rattle.frame.specs.Burst.{damaged, damagedBlocks, Burst, Survives}
 use Rattle.frame.specs.declared.Letter.{Letter}
 use Rattle.frame.proofs.Places.{length-gathered, Sized, length-frame, frame-sync, frame-service, blocks-gathered}
-use Rattle.frame.proofs.Writing.{written-is}
-use Rattle.frame.proofs.Back.{block-there, reads, sent-twice, good-blocks, below-frame, frame-bits}
+use Rattle.frame.proofs.Reading.{block-there, reads}
+use Rattle.frame_writer.specs.Write.{Written}
+use Rattle.frame_writer.specs.Burst.{damaged, damagedBlocks, Burst, Survives}
+use Rattle.frame_writer.proofs.Writing.{written-is}
+use Rattle.frame_writer.proofs.Back.{sent-twice, good-blocks, below-frame, frame-bits}
 
 pub gathered-⊕ : (p q : List ℕ) (b : ℕ) → length p ≡ length q → deinterleave (p ⊕ q) b ≡ deinterleave p b ⊕ deinterleave q b
 unfolding deinterleave

@@ -1,4 +1,4 @@
--- `frame::fill` meets its contract: the first i bytes are made. Assumes nothing.
+-- `frame_writer::fill` meets its contract: the first i bytes are made. Assumes nothing.
 use mathlib.Core.Path.{_≡_, refl}
 use Prim.Native.Nat.{_-_, _*_, _/_, _≤_}
 use native.Mathlib.Omega.{arith}
@@ -7,8 +7,8 @@ use Rattle.bits.specs.Table.{tabulate}
 use Rattle.bits.specs.Bits.{byteAt, bytesOf}
 use Rattle.bits.proofs.Table.{tab-more, tab-done}
 use borrow.Author.Needs.{needs}
-use Rattle.frame.proofs.fill.Statement.{statement}
-use Rattle.frame.proofs.fill.Tie as tie
+use Rattle.frame_writer.proofs.fill.Statement.{statement}
+use Rattle.frame_writer.proofs.fill.Tie as tie
 
 abbrev Inv-loop : tie.InvT-loop
 Inv-loop out₀ bits i₀ out i = (i ≤ 40) × (length out ≡ 40) × (take i out ≡ tabulate i (λ i. byteAt bits (8 * i)))

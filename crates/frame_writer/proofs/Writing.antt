@@ -16,9 +16,9 @@ use lib.ListN.{length}
 use Rattle.bits.specs.Table.{every}
 use Rattle.bits.specs.Bits.{areBits}
 use Rattle.bits.proofs.Tests.{both-true}
 use Rattle.frame.specs.Frame.{frameBytes}
-use Rattle.frame.specs.Write.{goodValues, writeNumber, Written}
 use Rattle.frame.specs.declared.Letter.{Letter}
+use Rattle.frame_writer.specs.Write.{goodValues, writeNumber, Written}
 
 module _ (size s : ℕ) (blocks : List (List ℕ)) where
   pub number-size : (size ≡ 40 → ⊥) → 1 ≡ writeNumber size s blocks

@@ -1,10 +1,10 @@
--- `frame::write_number` meets its contract. Assumes nothing.
+-- `frame_writer::write_number` meets its contract. Assumes nothing.
 use mathlib.Core.Path.{sym, _∙_}
 use native.Mathlib.Omega.{arith}
-use Rattle.frame.proofs.Writing.{number-size, number-value, number-none}
+use Rattle.frame_writer.proofs.Writing.{number-size, number-value, number-none}
 use borrow.Author.Needs.{needs}
-use Rattle.frame.proofs.write_number.Statement.{statement}
-use Rattle.frame.proofs.write_number.Tie as tie
+use Rattle.frame_writer.proofs.write_number.Statement.{statement}
+use Rattle.frame_writer.proofs.write_number.Tie as tie
 
 returns : tie.Need-returns
 returns c = let a = c .before .args in number-size (a .size) (a .service) _ (λ e. omega arith)

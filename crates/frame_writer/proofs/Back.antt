@@ -1,80 +1,42 @@
 -- What is written is read back, and what is read is written back.
---     block-there, sent-twice     a block that a frame has; what is carried of a service bit that was carried
---     reads                       what 40 bytes read as, by their bits, where the sync is right
+--     sent-twice                  what is carried of a service bit that was carried
 --     good-blocks, below-frame    entries that pass the test are bits, and so is the whole frame
 --     frame-bits, frame-bytes     the bits of a frame's bytes; there are 40
 --     written-reads               THE FIRST: a frame that was written reads as the service bit sent and the four blocks
---     read-zero, read-found       number 0 says that there are 40 bytes with at most `mostWrong` wrong sync bits, and what was found
---     bits-kept, right-writes     writing that makes the frame's bits again, but for B's service bit, where the sync is right
+--     bits-kept, right-writes     writing what was read makes the frame's bits again, but for B's service bit, where the sync is right
 --     read-writes                 THE SECOND: what a frame reads as is written as that frame, B with its service bit 0
 -- Assumes nothing.
 use mathlib.Core.Path.{_≡_, refl, sym, ap, _∙_, subst}
-use mathlib.Core.Bool.{Bool, true, false, cond}
+use mathlib.Core.Bool.{true}
 use mathlib.Core.List.{List, [], _∷_}
-use Prim.Native.Nat.{ℕ, zero, suc, _*_, _/_, _<_, _≤_}
-use native.Mathlib.Nat.{suc-ne-zero}
+use Prim.Native.Nat.{ℕ, zero, suc, _*_, _/_, _<_}
 use native.Mathlib.Decide.{decLe, ℕ-discrete}
 use native.Mathlib.Omega.{arith}
-use borrow.Author.Tests.{eq-eqb, le-leb, lt-ltb, eqb-true, leb-true}
-use lib.Dec.{eqb, leb}
+use borrow.Author.Tests.{le-leb}
 use lib.ListN.{length, getD, set, length-set}
 use lib.Seq.{ext-getD, set-getD, getD-set-same, getD-set-other}
-use Rattle.bits.specs.Table.{tabulate, every}
+use Rattle.bits.specs.Table.{every}
 use Rattle.bits.specs.Digits.{Below}
 use Rattle.bits.specs.Bits.{bitAt, bitsOf, bytesOf, areBits}
-use Rattle.bits.proofs.Table.{getD-tab, tab-ext, tab-getD}
+use Rattle.bits.proofs.Table.{getD-tab}
 use Rattle.bits.proofs.Tests.{both-true}
-use Rattle.bits.proofs.Bits.{length-bitsOf, length-bytesOf, bytes-back, bits-back, bits-below, below-bits, bitsOf-at, bitAt-below, below-bitsOf}
-use Rattle.frame.specs.Frame.{syncWord, serviceIn, interleave, block, frameBits, frameBytes, deinterleave, blockAt, bitAtPlace}
-use Rattle.frame.specs.Read.{wrongSync, mostWrong, serviceRead, blockOf, blocksIn, nothing, found, blocksOf, readFrame, serviceCleared}
-use Rattle.frame.specs.Write.{goodValues, Written}
-use Rattle.frame.specs.declared.FrameRead.{FrameRead}
+use Rattle.bits.proofs.Bits.{length-bitsOf, length-bytesOf, bytes-back, bits-back, bits-below, bitsOf-at}
+use Rattle.frame.specs.Frame.{syncWord, serviceIn, interleave, block, frameBits, frameBytes, blockAt, bitAtPlace}
+use Rattle.frame.specs.Read.{wrongSync, serviceRead, blocksIn, found, blocksOf, readFrame}
 use Rattle.frame.specs.declared.Letter.{Letter}
 use Rattle.frame.specs.declared.Letter.the-variants.{A, B}
 use Rattle.frame.proofs.Interleave.{below-interleave}
 use Rattle.frame.proofs.Parts.{below-parts}
-use Rattle.frame.proofs.Sync.{length-sync, below-sync, sync-matches, sync-right}
-use Rattle.frame.proofs.Places.{place-belongs, length-gathered, gathered-at, below-gathered, Sized, length-frame, frame-sync, frame-service, placed, blocks-gathered}
-use Rattle.frame.proofs.Writing.{number-none, success, written-is}
-
-pub block-there : (bytes : List ℕ) (b : ℕ) → b < 4 → blockOf bytes b ≡ deinterleave (bitsOf bytes) b
-unfolding blockOf
-block-there bytes b h = rw (lt-ltb b 4 h)
-
-sent-read : (letter : Letter) (bytes : List ℕ) → serviceRead letter bytes ≡ serviceIn letter (getD (bitsOf bytes) 11 0)
-unfolding serviceRead
-sent-read letter bytes = ap (serviceIn letter) (sym (bitsOf-at bytes 11))
+use Rattle.frame.proofs.Sync.{below-sync, sync-matches}
+use Rattle.frame.proofs.Places.{place-belongs, gathered-at, Sized, length-frame, frame-sync, frame-service, placed, blocks-gathered}
+use Rattle.frame.proofs.Reading.{below-sent, below-service, reads, read-zero, read-found, found-there, sized-found, found-bits}
+use Rattle.frame_writer.specs.Write.{goodValues, Written, serviceCleared}
+use Rattle.frame_writer.proofs.Writing.{number-none, success, written-is}
 
 pub sent-twice : (letter : Letter) (s : ℕ) → serviceIn letter (serviceIn letter s) ≡ serviceIn letter s
 unfolding serviceIn
 sent-twice A s = refl
 sent-twice B s = refl
-
-below-sent : (letter : Letter) (s : ℕ) → s < 2 → serviceIn letter s < 2
-unfolding serviceIn
-below-sent A s h = h
-below-sent B s h = omega arith
-
-module _ (letter : Letter) (bytes bits : List ℕ) (sized : length bytes ≡ 40) (are : bitsOf bytes ≡ bits) where
-  pub reads : ((k : ℕ) → k < 11 → getD bits k 0 ≡ getD (syncWord letter) k 0)
-      → readFrame letter bytes ≡ found (serviceIn letter (getD bits 11 0)) (deinterleave bits 0 ∷ deinterleave bits 1 ∷ deinterleave bits 2 ∷ deinterleave bits 3 ∷ [])
-  unfolding readFrame
-  reads sync =
-      let right : tabulate 11 (bitAt bytes) ≡ syncWord letter =
-      tab-ext 11 (bitAt bytes) (λ k. getD (syncWord letter) k 0) (λ k h. sym (bitsOf-at bytes k) ∙ ap (λ (l : List ℕ). getD l k 0) are ∙ sync k h)
-      ∙ sym (tab-getD 11 (syncWord letter) 0 (length-sync letter))
-      in
-      let none = sync-right letter bytes right in
-      rw (
-        eq-eqb (length bytes) 40 sized,
-        le-leb (wrongSync letter bytes) mostWrong (omega arith),
-        sent-read letter bytes,
-        block-there bytes 0 (omega arith),
-        block-there bytes 1 (omega arith),
-        block-there bytes 2 (omega arith),
-        block-there bytes 3 (omega arith),
-        are,
-      )
 
 -- ---- what is written is read back
 pub good-blocks : (n : ℕ) (blocks : List (List ℕ)) → every areBits blocks ≡ true → Below 2 (block blocks n)
@@ -119,55 +81,14 @@ written-reads letter s blocks out frame sized w =
     ap (readFrame letter) (good .2) ∙ frame-reads letter s blocks sized (good .0) (good .1)
 
 -- ---- what is read is written back
-read-ways : (a b : Bool) (x y z : FrameRead) → (y .number ≡ 0 → ⊥) → (z .number ≡ 0 → ⊥) → cond a (cond b x y) z .number ≡ 0 → (a ≡ true) × (b ≡ true)
-read-ways true true x y z hy hz e = (refl, refl)
-read-ways true false x y z hy hz e = absurd (hy e)
-read-ways false b x y z hy hz e = absurd (hz e)
-
-below-service : (letter : Letter) (bytes : List ℕ) → serviceRead letter bytes ≤ 1
-unfolding serviceRead
-below-service letter bytes = let small = below-sent letter (bitAt bytes 11) (bitAt-below bytes 11) in omega arith
-
 cleared : (letter : Letter) (bytes : List ℕ) → Below 256 bytes → bytesOf (set (bitsOf bytes) 11 (serviceIn letter (serviceRead letter bytes))) ≡ serviceCleared letter bytes
 unfolding serviceCleared serviceIn serviceRead
 cleared A bytes h = ap (λ (x : ℕ). bytesOf (set (bitsOf bytes) 11 x)) (sym (bitsOf-at bytes 11)) ∙ ap bytesOf (set-getD (bitsOf bytes) 11 0) ∙ bytes-back bytes h
 cleared B bytes h = refl
 
 module _ (letter : Letter) (bytes : List ℕ) (taken : readFrame letter bytes .number ≡ 0) where
-  tests : (eqb (length bytes) 40 ≡ true) × (leb (wrongSync letter bytes) mostWrong ≡ true)
-  unfolding readFrame nothing
-  tests =
-      read-ways (eqb (length bytes) 40) (leb (wrongSync letter bytes) mostWrong) (found (serviceRead letter bytes) (blocksIn bytes)) (nothing 3) (nothing 1)
-      (suc-ne-zero 2) (suc-ne-zero 0) taken
-
-  pub read-zero : (length bytes ≡ 40) × (wrongSync letter bytes ≤ mostWrong)
-  read-zero = (eqb-true (length bytes) 40 (tests .0), leb-true (wrongSync letter bytes) mostWrong (tests .1))
-
-  pub read-found : readFrame letter bytes ≡ found (serviceRead letter bytes) (blocksIn bytes)
-  unfolding readFrame
-  read-found = rw (tests .0, tests .1)
-
-  each : (b : ℕ) → b < 4 → block (blocksIn bytes) b ≡ deinterleave (bitsOf bytes) b
-  each zero h = block-there bytes 0 h
-  each (suc zero) h = block-there bytes 1 h
-  each (suc (suc zero)) h = block-there bytes 2 h
-  each (suc (suc (suc zero))) h = block-there bytes 3 h
-  each (suc (suc (suc (suc b)))) h = absurd (omega arith)
-
-  sized-blocks : Sized (blocksIn bytes)
-  sized-blocks b h = ap length (each b h) ∙ length-gathered (bitsOf bytes) b
-
-  below-blocks : (b : ℕ) → b < 4 → areBits (block (blocksIn bytes) b) ≡ true
-  below-blocks b h =
-      ap areBits (each b h) ∙ below-bits (deinterleave (bitsOf bytes) b) (below-gathered (bitsOf bytes) b (below-bitsOf bytes))
-
-  all-bits : every areBits (blocksIn bytes) ≡ true
-  unfolding every
-  all-bits =
-      rw (below-blocks 0 (omega arith), below-blocks 1 (omega arith), below-blocks 2 (omega arith), below-blocks 3 (omega arith))
-
   long : length (bitsOf bytes) ≡ 320
-  long = length-bitsOf bytes ∙ ap (λ (n : ℕ). 8 * n) (read-zero .0)
+  long = length-bitsOf bytes ∙ ap (λ (n : ℕ). 8 * n) (read-zero letter bytes taken .0)
 
   module _ (right : wrongSync letter bytes ≡ 0) where
     -- place by place: the sync is right, and each place behind the service bit is that of a bit of a block
@@ -176,7 +97,7 @@ module _ (letter : Letter) (bytes : List ℕ) (taken : readFrame letter bytes .n
       where
         go : Dec (k < 11) → getD (frameBits letter (serviceRead letter bytes) (blocksIn bytes)) k 0 ≡ getD (bitsOf bytes) k 0
         go (yes i) =
-            frame-sync letter (serviceRead letter bytes) (blocksIn bytes) sized-blocks k i
+            frame-sync letter (serviceRead letter bytes) (blocksIn bytes) (sized-found bytes) k i
             ∙ ap (λ (l : List ℕ). getD l k 0) (sym (sync-matches letter bytes right))
             ∙ getD-tab 11 (bitAt bytes) k 0 i ∙ sym (bitsOf-at bytes k)
         go (no o) =
@@ -184,23 +105,23 @@ module _ (letter : Letter) (bytes : List ℕ) (taken : readFrame letter bytes .n
             let b : ℕ = blockAt k in
             let j : ℕ = bitAtPlace k in
             ap (λ (n : ℕ). getD (frameBits letter (serviceRead letter bytes) (blocksIn bytes)) n 0) (sym (home .place))
-            ∙ placed letter (serviceRead letter bytes) (blocksIn bytes) sized-blocks b j (home .block-there) (home .bit-there)
-            ∙ ap (λ (l : List ℕ). getD l j 0) (each b (home .block-there))
+            ∙ placed letter (serviceRead letter bytes) (blocksIn bytes) (sized-found bytes) b j (home .block-there) (home .bit-there)
+            ∙ ap (λ (l : List ℕ). getD l j 0) (found-there bytes b (home .block-there))
             ∙ gathered-at (bitsOf bytes) b j (home .bit-there)
             ∙ ap (λ (n : ℕ). getD (bitsOf bytes) n 0) (home .place)
 
     pub bits-kept : frameBits letter (serviceRead letter bytes) (blocksIn bytes) ≡ set (bitsOf bytes) 11 (serviceIn letter (serviceRead letter bytes))
     bits-kept =
         ext-getD 0 (frameBits letter (serviceRead letter bytes) (blocksIn bytes)) (set (bitsOf bytes) 11 service)
-        (length-frame letter (serviceRead letter bytes) (blocksIn bytes) sized-blocks ∙ sym (length-set (bitsOf bytes) 11 service ∙ long))
-        (λ k h. go k (subst (λ (n : ℕ). k < n) (length-frame letter (serviceRead letter bytes) (blocksIn bytes) sized-blocks) h) (ℕ-discrete k 11))
+        (length-frame letter (serviceRead letter bytes) (blocksIn bytes) (sized-found bytes) ∙ sym (length-set (bitsOf bytes) 11 service ∙ long))
+        (λ k h. go k (subst (λ (n : ℕ). k < n) (length-frame letter (serviceRead letter bytes) (blocksIn bytes) (sized-found bytes)) h) (ℕ-discrete k 11))
       where
         service : ℕ
         service = serviceIn letter (serviceRead letter bytes)
 
         go : (k : ℕ) → k < 320 → Dec (k ≡ 11) → getD (frameBits letter (serviceRead letter bytes) (blocksIn bytes)) k 0 ≡ getD (set (bitsOf bytes) 11 service) k 0
         go k h (yes e) =
-            rw e (frame-service letter (serviceRead letter bytes) (blocksIn bytes) sized-blocks ∙ sym (getD-set-same (bitsOf bytes) 11 service 0 (omega (arith, long))))
+            rw e (frame-service letter (serviceRead letter bytes) (blocksIn bytes) (sized-found bytes) ∙ sym (getD-set-same (bitsOf bytes) 11 service 0 (omega (arith, long))))
         go k h (no o) = bit-kept k h o ∙ sym (getD-set-other (bitsOf bytes) 11 k service 0 o)
 
     -- the bytes of those bits
@@ -212,12 +133,12 @@ module _ (letter : Letter) (bytes : List ℕ) (taken : readFrame letter bytes .n
         → Written letter (readFrame letter bytes .service) (blocksOf (readFrame letter bytes)) out 0 (serviceCleared letter bytes)
     unfolding goodValues
     right-writes h out sized =
-        rw read-found
+        rw (read-found letter bytes taken)
         (success letter (serviceRead letter bytes) (blocksIn bytes) out 0
-        (number-none (length out) (serviceRead letter bytes) (blocksIn bytes) sized (rw (le-leb (serviceRead letter bytes) 1 (below-service letter bytes), all-bits)))
+        (number-none (length out) (serviceRead letter bytes) (blocksIn bytes) sized (rw (le-leb (serviceRead letter bytes) 1 (below-service letter bytes), found-bits bytes)))
         (serviceCleared letter bytes) refl (sym (bytes-kept h)))
 
   -- a sync that is taken has at most `mostWrong` wrong bits, and so none
   pub read-writes : Below 256 bytes → (out : List ℕ) → length out ≡ 40
       → Written letter (readFrame letter bytes .service) (blocksOf (readFrame letter bytes)) out 0 (serviceCleared letter bytes)
-  read-writes h out sized = let few = read-zero .1 in right-writes (omega arith) h out sized
+  read-writes h out sized = let few = read-zero letter bytes taken .1 in right-writes (omega arith) h out sized

@@ -1,4 +1,4 @@
--- `frame::joined` meets its contract: the first k bits stand. Assumes nothing.
+-- `frame_writer::joined` meets its contract: the first k bits stand. Assumes nothing.
 use mathlib.Core.Path.{_≡_, sym, ap, _∙_}
 use mathlib.Core.List.{List, _∷_, _++_}
 use mathlib.Core.Logic.{⊎-elim}
@@ -6,10 +6,10 @@ use Prim.Native.Nat.{ℕ, _-_, _≤_}
 use native.Mathlib.Omega.{arith}
 use lib.ListN.{length, take, length-set}
 use Rattle.bits.proofs.Table.{toward, arrived}
 use Rattle.frame.proofs.Parts.{parts, length-parts, at-sync, at-service, at-front, at-back}
 use borrow.Author.Needs.{needs}
-use Rattle.frame.proofs.joined.Statement.{statement}
-use Rattle.frame.proofs.joined.Tie as tie
+use Rattle.frame_writer.proofs.joined.Statement.{statement}
+use Rattle.frame_writer.proofs.joined.Tie as tie
 
 abbrev Inv-loop : tie.InvT-loop
 Inv-loop service front back sync out₀ k₀ out k = (k ≤ 320) × (length out ≡ 320) × (take k out ≡ take k (sync ++ (service ∷ (front ++ back))))

@@ -1,14 +1,14 @@
--- `frame::interleaved` meets its contract: the first 2 j bits stand. Assumes nothing.
+-- `frame_writer::interleaved` meets its contract: the first 2 j bits stand. Assumes nothing.
 use mathlib.Core.Path.{_≡_, sym}
 use Prim.Native.Nat.{ℕ, _+_, _-_, _*_, _≤_}
 use native.Mathlib.Omega.{arith}
 use lib.ListN.{length, getD, take, set, length-set}
 use Rattle.bits.proofs.Table.{toward, arrived}
 use Rattle.frame.specs.Frame.{interleave}
 use Rattle.frame.proofs.Interleave.{length-interleave, interleave-even, interleave-odd}
 use borrow.Author.Needs.{needs}
-use Rattle.frame.proofs.interleaved.Statement.{statement}
-use Rattle.frame.proofs.interleaved.Tie as tie
+use Rattle.frame_writer.proofs.interleaved.Statement.{statement}
+use Rattle.frame_writer.proofs.interleaved.Tie as tie
 
 abbrev Inv-loop : tie.InvT-loop
 Inv-loop lower higher out₀ j₀ out j = (j ≤ 77) × (length out ≡ 154) × (take (2 * j) out ≡ take (2 * j) (interleave lower higher))

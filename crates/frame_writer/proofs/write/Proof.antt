@@ -1,12 +1,12 @@
--- `frame::write` meets its contract. Assumes nothing.
+-- `frame_writer::write` meets its contract. Assumes nothing.
 use mathlib.Core.Path.{_≡_, sym, ap, _∙_}
 use native.Mathlib.Omega.{arith}
 use Rattle.bits.specs.Bits.{bytesOf}
 use Rattle.frame.specs.Frame.{frameBits, frameBytes}
-use Rattle.frame.proofs.Writing.{number-zero, refusal, success}
+use Rattle.frame_writer.proofs.Writing.{number-zero, refusal, success}
 use borrow.Author.Needs.{needs}
-use Rattle.frame.proofs.write.Statement.{statement}
-use Rattle.frame.proofs.write.Tie as tie
+use Rattle.frame_writer.proofs.write.Statement.{statement}
+use Rattle.frame_writer.proofs.write.Tie as tie
 
 write-number-requires : tie.Need-write-number-requires
 write-number-requires c κs = search needs
