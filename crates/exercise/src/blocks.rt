@@ -20,7 +20,7 @@ fn write(line: &[u8], at: usize, out: &mut [u8], to: usize) -> usize {
         return end;
     }
     let end = text::put(out, end, b' ');
-    text::put_row(out, end, &bits)
+    text_rows::put_row(out, end, &bits)
 }
 
 // The number that stands for a reading behind number 0: clean, mended with 1 or 2, bad; 4 where the bits were out of range.
@@ -49,7 +49,7 @@ fn read(line: &[u8], at: usize, out: &mut [u8], to: usize) -> usize {
     let end = text::put(out, to, b'0');
     let end = text::put_next(out, end, number as u64);
     let end = text::put(out, end, b' ');
-    text::put_row(out, end, &stood)
+    text_rows::put_row(out, end, &stood)
 }
 
 fn codes(line: &[u8], at: usize, out: &mut [u8], to: usize) -> usize {

@@ -2,5 +2,4 @@ pub mod Sums
 pub mod Order
 pub mod Whole
 pub mod Run
-pub mod Text
 pub mod Unique

@@ -1,7 +1,6 @@
 -- Laws of lists spelled by a rule.
 --     spelled-more        the text of one element more, as a loop puts it
 --     spelled-all         the text of all
---     spelled-itself      each element by itself is the list
 -- Assumes nothing.
 use mathlib.Core.Path.{_≡_, refl, sym, ap, _∙_}
 use mathlib.Core.List.{List, [], _∷_, _++_, append-assoc, append-nil}
@@ -9,9 +8,9 @@ use Prim.Native.Nat.{ℕ, suc, _+_, _≤_, _<_}
 use native.Mathlib.Numerals.{add-one}
 use lib.ListN.{length, getD, take}
 use lib.Seq.{take-suc, take-all}
 use Rattle.text.specs.Page.{Page, putText}
-use Rattle.text.specs.Digits.{spelled}
+use Rattle.text_rows.specs.Rows.{spelled}
 use Rattle.text.proofs.Pages.{put-append}
 
 module _ (f : ℕ → List ℕ) where
   spelled-append : (l m : List ℕ) → spelled f (l ++ m) ≡ spelled f l ++ spelled f m
@@ -41,8 +40,3 @@ module _ (f : ℕ → List ℕ) where
 
   pub spelled-all : (start p : Page) (l : List ℕ) (i : ℕ) → length l ≤ i → p ≡ putText start (spelled f (take i l)) → p ≡ putText start (spelled f l)
   spelled-all start p l i h e = e ∙ ap (λ (r : List ℕ). putText start (spelled f r)) (take-all i l h)
-
-pub spelled-itself : (l : List ℕ) → spelled (λ x. x ∷ []) l ≡ l
-unfolding spelled
-spelled-itself [] = refl
-spelled-itself (x ∷ l) = ap (λ (r : List ℕ). x ∷ r) (spelled-itself l)

@@ -1,12 +1,12 @@
--- `text::put_byte` meets its contract. Assumes nothing.
+-- `text_rows::put_byte` meets its contract. Assumes nothing.
 use mathlib.Core.Path.{ap₂, _∙_}
 use mathlib.Core.List.{[], _∷_}
 use Prim.Native.Nat.{ℕ}
 use Rattle.text.specs.Page.{page, putText}
 use Rattle.text.proofs.Pages.{put-then}
 use borrow.Author.Needs.{needs}
-use Rattle.text.proofs.put_byte.Statement.{statement}
-use Rattle.text.proofs.put_byte.Tie as tie
+use Rattle.text_rows.proofs.put_byte.Statement.{statement}
+use Rattle.text_rows.proofs.put_byte.Tie as tie
 
 hex-digit-requires : tie.Need-hex-digit-requires
 hex-digit-requires c κs = search needs

@@ -1,16 +1,14 @@
--- `text::put_hex` meets its contract: after i turns the page holds the text of the first i. Assumes nothing.
-use Prim.Native.Nat.{_+_, _-_, _%_, _≤_}
-use mathlib.Core.Path.{_≡_, refl, ap, _∙_}
-use mathlib.Core.List.{[], _∷_}
+-- `text_rows::put_hex` meets its contract: after i turns the page holds the text of the first i. Assumes nothing.
+use Prim.Native.Nat.{_-_, _≤_}
+use mathlib.Core.Path.{_≡_, refl}
 use native.Mathlib.Omega.{arith}
 use lib.ListN.{length, take}
-use lib.Seq.{take-all}
 use Rattle.text.specs.Page.{page, putText}
-use Rattle.text.specs.Digits.{spelled, hexByte}
-use Rattle.text.proofs.Spelled.{spelled-more, spelled-all, spelled-itself}
+use Rattle.text_rows.specs.Rows.{spelled, hexByte}
+use Rattle.text_rows.proofs.Spelled.{spelled-more, spelled-all}
 use borrow.Author.Needs.{needs}
-use Rattle.text.proofs.put_hex.Statement.{statement}
-use Rattle.text.proofs.put_hex.Tie as tie
+use Rattle.text_rows.proofs.put_hex.Statement.{statement}
+use Rattle.text_rows.proofs.put_hex.Tie as tie
 
 abbrev Inv-loop : tie.InvT-loop
 Inv-loop out₀ to bytes end₀ i₀ out end i =

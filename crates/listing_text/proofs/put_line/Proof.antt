@@ -1,9 +1,9 @@
--- `tally::put_line` meets its contract. Assumes nothing.
+-- `listing_text::put_line` meets its contract. Assumes nothing.
 use Rattle.text.proofs.Pages.{put-then}
-use Rattle.tally.specs.Listing.{line}
+use Rattle.listing_text.specs.Listing.{line}
 use borrow.Author.Needs.{needs}
-use Rattle.tally.proofs.put_line.Statement.{statement}
-use Rattle.tally.proofs.put_line.Tie as tie
+use Rattle.listing_text.proofs.put_line.Statement.{statement}
+use Rattle.listing_text.proofs.put_line.Tie as tie
 
 put-all-requires : tie.Need-put-all-requires
 put-all-requires c κs = search needs

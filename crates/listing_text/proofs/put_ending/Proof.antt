@@ -1,10 +1,10 @@
--- `tally::put_ending` meets its contract. Assumes nothing.
+-- `listing_text::put_ending` meets its contract. Assumes nothing.
 use borrow.Author.Tests.{eq-eqb, ne-eqb}
 use Rattle.bits.specs.Letters.{letters}
-use Rattle.tally.specs.Listing.{ending}
+use Rattle.listing_text.specs.Listing.{ending}
 use borrow.Author.Needs.{needs}
-use Rattle.tally.proofs.put_ending.Statement.{statement}
-use Rattle.tally.proofs.put_ending.Tie as tie
+use Rattle.listing_text.proofs.put_ending.Statement.{statement}
+use Rattle.listing_text.proofs.put_ending.Tie as tie
 
 slice-aggregate-put-all : tie.Need-slice-aggregate-put-all
 slice-aggregate-put-all c = search needs

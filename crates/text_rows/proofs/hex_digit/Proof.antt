@@ -1,8 +1,8 @@
 use mathlib.Core.Path.{refl}
 use borrow.Author.Tests.{lt-ltb, le-ltb}
 use borrow.Author.Needs.{needs}
-use Rattle.text.proofs.hex_digit.Statement.{statement}
-use Rattle.text.proofs.hex_digit.Tie as tie
+use Rattle.text_rows.proofs.hex_digit.Statement.{statement}
+use Rattle.text_rows.proofs.hex_digit.Tie as tie
 
 add-result : tie.Need-add-result
 add-result c = search needs

@@ -1,13 +1,13 @@
--- `tally::put_listing` meets its contract. Assumes nothing.
+-- `listing_text::put_listing` meets its contract. Assumes nothing.
 use mathlib.Core.Path.{sym, ap, _∙_}
 use Rattle.text.specs.Page.{page, putText}
 use Rattle.reel.specs.Header.{headerAnswer}
 use Rattle.reel.specs.declared.HeaderRead.{HeaderRead}
 use Rattle.bits.specs.Letters.{letters}
-use Rattle.tally.specs.Listing.{listing}
+use Rattle.listing_text.specs.Listing.{listing}
 use borrow.Author.Needs.{needs}
-use Rattle.tally.proofs.put_listing.Statement.{statement}
-use Rattle.tally.proofs.put_listing.Tie as tie
+use Rattle.listing_text.proofs.put_listing.Statement.{statement}
+use Rattle.listing_text.proofs.put_listing.Tie as tie
 
 enum-told : tie.Need-enum-told
 enum-told c = search needs

@@ -17,8 +17,8 @@ use Rattle.text.proofs.Decimal.{decimal-short}
 use Rattle.reel.specs.Header.{headerAnswer}
 use Rattle.reel.specs.declared.HeaderRead.{HeaderRead}
 use Rattle.reel.specs.declared.HeaderRead.the-variants.{Reel, NoHeader}
-use Rattle.tally.specs.Listing.{line, ending, sixLines, listing}
+use Rattle.listing_text.specs.Listing.{line, ending, sixLines, listing}
 use Rattle.tally.specs.declared.Totals.{Totals}
 
 pub document-case :
     listing (accepted (2 ∷ 16 ∷ [])) (record { superframes = 2; lost = 1; clean = 512; mended = 0; bad = 0 })

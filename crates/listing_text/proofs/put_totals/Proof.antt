@@ -1,10 +1,10 @@
--- `tally::put_totals` meets its contract. Assumes nothing.
+-- `listing_text::put_totals` meets its contract. Assumes nothing.
 use Rattle.bits.specs.Letters.{letters}
 use Rattle.text.proofs.Pages.{put-then}
-use Rattle.tally.specs.Listing.{sixLines}
+use Rattle.listing_text.specs.Listing.{sixLines}
 use borrow.Author.Needs.{needs}
-use Rattle.tally.proofs.put_totals.Statement.{statement}
-use Rattle.tally.proofs.put_totals.Tie as tie
+use Rattle.listing_text.proofs.put_totals.Statement.{statement}
+use Rattle.listing_text.proofs.put_totals.Tie as tie
 
 slice-aggregate-put-line : tie.Need-slice-aggregate-put-line
 slice-aggregate-put-line c = search needs
