@@ -1,15 +1,18 @@
 -- Laws of lists spelled by a rule.
 --     spelled-more        the text of one element more, as a loop puts it
 --     spelled-all         the text of all
+--     length-row, length-hex      how long they are
 -- Assumes nothing.
 use mathlib.Core.Path.{_≡_, refl, sym, ap, _∙_}
 use mathlib.Core.List.{List, [], _∷_, _++_, append-assoc, append-nil}
-use Prim.Native.Nat.{ℕ, suc, _+_, _≤_, _<_}
+use Prim.Native.Nat.{ℕ, _+_, _*_, _≤_, _<_}
+use native.Mathlib.Nat.{suc-mul}
 use native.Mathlib.Numerals.{add-one}
-use lib.ListN.{length, getD, take}
+use native.Mathlib.Omega.{arith}
+use lib.ListN.{length, getD, take, length-append}
 use lib.Seq.{take-suc, take-all}
 use Rattle.text.specs.Page.{Page, putText}
-use Rattle.text_rows.specs.Rows.{spelled}
+use Rattle.text_rows.specs.Rows.{spelled, row, hexByte, hexadecimal}
 use Rattle.text.proofs.Pages.{put-append}
 
 module _ (f : ℕ → List ℕ) where
@@ -40,3 +43,14 @@ module _ (f : ℕ → List ℕ) where
 
   pub spelled-all : (start p : Page) (l : List ℕ) (i : ℕ) → length l ≤ i → p ≡ putText start (spelled f (take i l)) → p ≡ putText start (spelled f l)
   spelled-all start p l i h e = e ∙ ap (λ (r : List ℕ). putText start (spelled f r)) (take-all i l h)
+
+  length-spelled : (k : ℕ) → ((x : ℕ) → length (f x) ≡ k) → (l : List ℕ) → length (spelled f l) ≡ length l * k
+  unfolding spelled
+  length-spelled k h [] = omega arith
+  length-spelled k h (x ∷ l) = rw (length-append (f x) (spelled f l), h x, length-spelled k h l, suc-mul (length l) k) (omega arith)
+
+pub length-row : (l : List ℕ) → length (row l) ≡ length l
+length-row l = length-spelled _ 1 (λ x. refl) l ∙ omega arith
+
+pub length-hex : (l : List ℕ) → length (hexadecimal l) ≡ 2 * length l
+length-hex l = length-spelled hexByte 2 (λ x. refl) l ∙ omega arith

@@ -1,0 +1,27 @@
+-- The lines of a superframe in a transcript (second/README.md, "The transcript"), each with its end.
+--     headLine k number                 superframe k, and the number that taking it gave
+--     blocksLine blocks                 how many of its blocks are clean, mended and bad
+--     superframeText k t samples marks  all lines of superframe k; the first alone where it was refused
+use Prim.Native.Nat.{ℕ}
+use mathlib.Core.Bool.{cond}
+use mathlib.Core.List.{List, [], _++_}
+use lib.Dec.{eqb}
+use lib.IntN.{ℤ}
+use Rattle.bits.specs.Letters.{letters}
+use Rattle.text_rows.specs.Turns.{next}
+use Rattle.tally.specs.Totals.{sumOf}
+use Rattle.beside_text.specs.Lines.{besideText}
+use Rattle.frames_text.specs.Frames.{framesText}
+use Rattle.tape.specs.declared.blocks.Blocks.{Blocks}
+use Rattle.superframe.specs.declared.taking.Taken.{Taken}
+
+unfoldable pub headLine : ℕ → ℕ → List ℕ
+headLine k number = letters "superframe" ++ (next k ++ (letters " number" ++ (next number ++ letters "\n")))
+
+unfoldable pub blocksLine : Blocks → List ℕ
+blocksLine blocks =
+    letters "blocks" ++ (next (sumOf (blocks .clean)) ++ (next (sumOf (blocks .mended)) ++ (next (sumOf (blocks .bad)) ++ letters "\n")))
+
+unfoldable pub superframeText : ℕ → Taken → List ℤ → List ℕ → List ℕ
+superframeText k t samples marks =
+    headLine k (t .number) ++ cond (eqb (t .number) 0) (besideText t ++ (blocksLine (t .blocks) ++ framesText samples marks)) []
