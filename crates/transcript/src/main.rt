@@ -1,21 +1,18 @@
 // Writes every answer of the reader, superframe by superframe, for the reel on standard input, so that a program that shares nothing with this
 // one can be compared with it. second/README.md, "The transcript", has the form of the lines.
-mod lines; // lines.rt: the lines of a superframe
-mod page; // page.rt: a line on its way out
-
 use reel::HeaderRead;
 use superframe::State;
 
-// Superframe k, and the state that the next one is taken with.
+// Superframe k, and the state that the next one is taken with. Its lines have at most 18,537 characters (`superframe-fits` in transcript_text).
 fn write_superframe(k: u32, state: State, bytes: &[u8; 5120]) -> State {
     let mut samples = [0i16; 2048];
     let mut marks = [0u8; 2048];
     let taken = state.take(bytes, &mut samples, &mut marks);
     let next = taken.next;
-    lines::write_head(k, taken.number);
-    if taken.number == 0 {
-        lines::write_beside(taken);
-        lines::write_frames(&samples, &marks);
+    let mut out = [0u8; 20480];
+    let end = transcript_text::put_superframe(&mut out, 0, k, taken, &samples, &marks);
+    if end <= out.len() {
+        io::write_all(1, &out[0..end]);
     }
     next
 }
