@@ -10,6 +10,7 @@
 --                           blocks of A, 5 to 8 those of B. Position b carries programmes 2b-1 and 2b
 --     blockIn, readingIn sf f p     that block, and its reading
 --     markOf r              the mark of a reading: 0 clean, 1 mended, 2 bad
+--     quadIn sf f p         the block in a position as it is read and handed on: its mark and its four codes
 --     blockMark sf f p      the mark of the block in a position
 --     howMany n P           how many of 0 .. n - 1 pass a test
 --     tallied m sf          for each of the eight positions how many of its 64 blocks have mark m
@@ -24,12 +25,14 @@ use lib.Dec.{eqb, leb, ltb}
 use lib.ListN.{length, getD, take, drop, replicate}
 use Rattle.bits.specs.Table.{tabulate, every}
 use Rattle.reading.specs.Search.{reading}
-use Rattle.block.specs.Read.{Said, clean, mended, bad, said, ordinary, protected}
+use Rattle.block.specs.Layout.{codesAt}
+use Rattle.block.specs.Read.{Said, clean, mended, bad, said, ordinary, protected, handedOn}
 use Rattle.frame.specs.Read.{wrongSync, mostWrong, blockOf}
 use Rattle.frame.specs.declared.Letter.{Letter}
 use Rattle.frame.specs.declared.Letter.the-variants.{A, B}
 use Rattle.tape.specs.declared.blocks.Blocks.{Blocks}
 use Rattle.tape.specs.declared.blocks.Counted.{Counted}
+use Rattle.tape.specs.declared.blocks.Quad.{Quad}
 
 unfoldable pub frameAt : List ℕ → ℕ → List ℕ
 frameAt sf f = take 40 (drop (40 * f) sf)
@@ -63,6 +66,9 @@ unfoldable pub markOf : Said → ℕ
 markOf clean = 0
 markOf (mended n) = 1
 markOf bad = 2
+
+unfoldable pub quadIn : List ℕ → ℕ → ℕ → Quad
+quadIn sf f p = record { mark = markOf (said (reading ordinary (protected (blockIn sf f p)))); codes = codesAt (handedOn (blockIn sf f p)) }
 
 unfoldable pub blockMark : List ℕ → ℕ → ℕ → ℕ
 blockMark sf f p = markOf (readingIn sf f p)
