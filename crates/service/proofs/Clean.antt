@@ -6,16 +6,14 @@
 --     Alike s s'        two states that hold the same in all places that carry something
 --     alike-served      they are answered alike: what stands in the other places is not looked at
 -- Assumes nothing.
-use mathlib.Core.Path.{_≡_, refl, ap, _∙_}
-use mathlib.Core.Logic.{⊎-elim}
+use mathlib.Core.Path.{_≡_, refl}
 use mathlib.Core.Bool.{Bool, true, false, cond}
 use mathlib.Core.List.{List}
 use Prim.Native.Nat.{ℕ, _+_, _/_, _%_, _<_, _≤_}
-use native.Mathlib.Nat.{eq-or-lt-of-le}
 use native.Mathlib.Omega.{arith}
-use lib.Dec.{eqb, ltb}
+use lib.Dec.{ltb}
 use lib.ListN.{getD}
-use borrow.Author.Tests.{eqb-true, ltb-true}
+use borrow.Author.Tests.{ltb-true}
 use Rattle.bits.specs.Digits.{Below}
 use Rattle.service_group.specs.Places.{zeros}
 use Rattle.service_group.specs.Six.{groupAfter, labelsAfter, stageAfter}

@@ -10,14 +10,14 @@
 --     neither-searches         a sync that is neither gives 7, drops, and sets searching
 --     separator-found, no-separator, group-brings, eighth-ends      what the group does that position 8 completes, by the stage
 -- Assumes nothing.
-use mathlib.Core.Path.{_≡_, refl, ap, _∙_}
-use mathlib.Core.Logic.{_⊎_, inr, ⊎-elim}
+use mathlib.Core.Path.{_≡_, refl, _∙_}
+use mathlib.Core.Logic.{_⊎_, inr}
 use mathlib.Core.Bool.{Bool, true, false, cond}
 use mathlib.Core.List.{List}
-use Prim.Native.Nat.{ℕ, _+_, _-_, _*_, _/_, _%_, _<_, _≤_}
+use Prim.Native.Nat.{ℕ, _+_, _<_, _≤_}
 use native.Mathlib.Omega.{arith}
-use lib.Dec.{eqb, leb, ltb}
-use borrow.Author.Tests.{leb-true, le-leb, lt-ltb, ne-eqb}
+use lib.Dec.{leb}
+use borrow.Author.Tests.{leb-true, le-leb, lt-ltb}
 use Rattle.bits.specs.Digits.{Below}
 use Rattle.bits.specs.Bits.{allBelow}
 use Rattle.service_group.specs.Places.{zeros}
@@ -26,7 +26,7 @@ use Rattle.service_sync.specs.Sync.{sync1, sync2, kindOf, dropsWith}
 use Rattle.service.specs.Taking.{takeSix, takeSync}
 use Rattle.service.specs.Service.{inRange, accepts, stepBy, served, searchingService}
 use Rattle.service.specs.declared.Service.{Service}
-use Rattle.service_sync.specs.declared.Kind.the-variants.{First, Second, Neither}
+use Rattle.service_sync.specs.declared.Kind.the-variants.{First, Second}
 use Rattle.bits.proofs.Tests.{both, both-left, both-right}
 use Rattle.bits.proofs.Bits.{below-all}
 use Rattle.service_group.proofs.Groups.{separator-starts, none-starts, stage-grows, stage-ends, eighth-ready}

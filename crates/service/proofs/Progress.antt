@@ -9,13 +9,12 @@
 --     drop-resets, drop-none     a dropped group, a dropped Sync 2 or a 7 leaves no progress: the 71 steps behind it hand out none
 -- Assumes nothing.
 use mathlib.Core.Path.{_≡_, refl}
-use mathlib.Core.Bool.{Bool, true, false, cond}
+use mathlib.Core.Bool.{Bool, true, false}
 use mathlib.Core.List.{List, [], _∷_}
 use Prim.Native.Nat.{ℕ, _+_, _*_, _<_, _≤_}
 use native.Mathlib.Omega.{arith}
-use lib.Dec.{eqb, ltb}
 use lib.ListN.{length}
-use borrow.Author.Tests.{eqb-true, ltb-true, ne-eqb, not-true}
+use borrow.Author.Tests.{not-true}
 use Rattle.bits.specs.Digits.{Below}
 use Rattle.service_group.specs.Places.{zeros}
 use Rattle.service_group.specs.Six.{stageAfter, groupAfter, isReady}

@@ -10,9 +10,8 @@ use lib.ListN.{getD}
 use Rattle.bits.specs.Answer.{accepted}
 use Rattle.sample.specs.Sample.{sampleOf}
 use Rattle.block.specs.Layout.{codeAt}
-use Rattle.block.specs.Read.{bad, saidOf, said, ordinary, protected}
+use Rattle.block.specs.Read.{bad, saidOf}
 use Rattle.block.proofs.Demand.{second}
-use Rattle.reading.specs.Search.{reading}
 use Rattle.tape.specs.Tape.{blockIn, readingIn, blockMark, markOf}
 use Rattle.tape.proofs.Tape.{block-bits, reading-there}
 use Rattle.sound.specs.Sound.{soundAt, markWith, codeIn, sampleAt, markAt}
