@@ -1,5 +1,5 @@
 -- Laws of samples and marks.
---     code-there            the codes of such a block: place j is channel j of it, and a code
+--     code-there, code-inside       the codes of a block: place j is channel j of it, and a code
 --     sound-answer          the sample, from what the sample rule answers
 --     sample-there, mark-there      what block n stores in place j of its four is number 4 n + j of all
 --     part-back             the four places of a block, lent and come back
