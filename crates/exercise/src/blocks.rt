@@ -13,14 +13,14 @@ fn write(line: &[u8], at: usize, out: &mut [u8], to: usize) -> usize {
         return 0;
     }
     let codes = [first.value, second.value, third.value, fourth.value];
-    let written = block::write(codes, [left.value, right.value]);
+    let written = block_writer::write(codes, [left.value, right.value]);
     let bits = written.bits;
     let end = text::put_number(out, to, written.number as u64);
     if written.number != 0 {
         return end;
     }
     let end = text::put(out, end, b' ');
-    text::put_row(out, end, &bits)
+    text_rows::put_row(out, end, &bits)
 }
 
 // The number that stands for a reading behind number 0: clean, mended with 1 or 2, bad; 4 where the bits were out of range.
@@ -49,7 +49,7 @@ fn read(line: &[u8], at: usize, out: &mut [u8], to: usize) -> usize {
     let end = text::put(out, to, b'0');
     let end = text::put_next(out, end, number as u64);
     let end = text::put(out, end, b' ');
-    text::put_row(out, end, &stood)
+    text_rows::put_row(out, end, &stood)
 }
 
 fn codes(line: &[u8], at: usize, out: &mut [u8], to: usize) -> usize {
@@ -58,7 +58,7 @@ fn codes(line: &[u8], at: usize, out: &mut [u8], to: usize) -> usize {
     if !words::ended(line, next) {
         return 0;
     }
-    let answer = block::codes(bits);
+    let answer = block_codes::codes_of(bits);
     let codes = answer.codes;
     let extra = answer.extra;
     let end = text::put_number(out, to, answer.number as u64);

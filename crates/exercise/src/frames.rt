@@ -29,7 +29,7 @@ fn letter_of(is_b: bool) -> Letter {
 
 fn put_block(out: &mut [u8], to: usize, bits: &[u8; 77]) -> usize {
     let behind = text::put(out, to, b' ');
-    text::put_row(out, behind, bits)
+    text_rows::put_row(out, behind, bits)
 }
 
 fn put_read(read: FrameRead, out: &mut [u8], to: usize) -> usize {
@@ -73,7 +73,7 @@ fn put_written(number: u8, lent: &[u8], out: &mut [u8], to: usize) -> usize {
     if lent.len() == 0 {
         return text::put(out, end, b'-');
     }
-    text::put_hex(out, end, lent)
+    text_rows::put_hex(out, end, lent)
 }
 
 // The four blocks, and the place behind them.
@@ -108,7 +108,7 @@ fn write_into(is_b: bool, service: u8, blocks: Blocks, lent: &mut [u8]) -> u8 {
     let second = blocks.second;
     let third = blocks.third;
     let fourth = blocks.fourth;
-    frame::write(letter_of(is_b), service, first, second, third, fourth, lent)
+    frame_writer::write(letter_of(is_b), service, first, second, third, fourth, lent)
 }
 
 fn put_lent(

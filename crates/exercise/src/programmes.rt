@@ -47,7 +47,7 @@ fn name(line: &[u8], at: usize, out: &mut [u8], to: usize) -> usize {
         return end;
     }
     let end = text::put(out, end, b' ');
-    text::put_hex(out, end, &letters)
+    text_rows::put_hex(out, end, &letters)
 }
 
 // The end of the answer, or 0 where the line is none of these calls.

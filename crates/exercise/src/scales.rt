@@ -15,7 +15,7 @@ fn write(line: &[u8], at: usize, out: &mut [u8], to: usize) -> usize {
         return end;
     }
     let end = text::put(out, end, b' ');
-    text::put_row(out, end, &bits)
+    text_rows::put_row(out, end, &bits)
 }
 
 fn read(line: &[u8], at: usize, out: &mut [u8], to: usize) -> usize {

@@ -35,18 +35,18 @@ fn read_state(line: &[u8], at: usize) -> Read {
 // A byte for each channel.
 fn put_channels(out: &mut [u8], to: usize, bytes: &[u8; 32]) -> usize {
     let behind = text::put(out, to, b' ');
-    text::put_hex(out, behind, bytes)
+    text_rows::put_hex(out, behind, bytes)
 }
 
 fn put_small(out: &mut [u8], to: usize, byte: u8) -> usize {
     let behind = text::put(out, to, b' ');
     let one = [byte];
-    text::put_hex(out, behind, &one)
+    text_rows::put_hex(out, behind, &one)
 }
 
 fn put_labels(out: &mut [u8], to: usize, labels: &[u8; 256]) -> usize {
     let behind = text::put(out, to, b' ');
-    text::put_hex(out, behind, labels)
+    text_rows::put_hex(out, behind, labels)
 }
 
 fn put_state(out: &mut [u8], to: usize, state: State) -> usize {

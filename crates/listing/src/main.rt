@@ -74,6 +74,6 @@ fn main() {
     let header = input::header();
     let totals = read(header);
     let mut out = [0u8; 192];
-    let end = tally::put_listing(&mut out, 0, header, totals);
+    let end = listing_text::put_listing(&mut out, 0, header, totals);
     write_first(1, &out, end);
 }

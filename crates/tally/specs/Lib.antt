@@ -1,3 +1,2 @@
 pub mod Totals
-pub mod Listing
 pub mod Reel

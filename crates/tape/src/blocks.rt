@@ -54,7 +54,7 @@ pub fn read_at(sf: &[u8], f: u8, p: u8) -> Quad
     let read = block::read(block_at(sf, f, p));
     let reading = read.reading;
     let bits = read.bits;
-    let taken = block::codes(bits);
+    let taken = block_codes::codes_of(bits);
     let codes = taken.codes;
     Quad {
         mark: mark_of(reading),

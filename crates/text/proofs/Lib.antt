@@ -1,4 +1,3 @@
 pub mod Pages
-pub mod Spelled
 pub mod Decimal
 pub mod Unique

@@ -1,6 +1,7 @@
 -- Laws of text put on a page.
 --     put-append         two texts one behind the other are put as one
 --     put-then           the same, of pages that are known by equations
+--     put-more           the first elements of a list and one more, as a loop puts them
 --     length-put         a page stays as long as it was
 --     put-fits           a text that fits stands at the place, and all before and behind it is as it was
 -- Assumes nothing.
@@ -9,11 +10,12 @@ use mathlib.Core.Bool.{true, false}
 use mathlib.Core.List.{List, [], _∷_, _++_, append-assoc, append-nil}
 use Prim.Native.Nat.{ℕ, suc, _+_, _≤_, _<_}
 use native.Mathlib.Nat.{add-zero, add-suc}
+use native.Mathlib.Numerals.{add-one}
 use native.Mathlib.Omega.{arith}
 use borrow.Author.Tests.{lt-ltb}
 use lib.Dec.{ltb}
-use lib.ListN.{length, set, take, drop, length-set, take-append-drop}
-use lib.Seq.{take-suc-set, drop-set-lt}
+use lib.ListN.{length, getD, set, take, drop, length-set, take-append-drop}
+use lib.Seq.{take-suc, take-suc-set, drop-set-lt}
 use Rattle.bits.proofs.Tests.{either-way}
 use Rattle.text.specs.Page.{Page, page, putByte, putText}
 
@@ -40,6 +42,11 @@ room bytes at b h = rw (lt-ltb at (length bytes) h)
 
 pub put-then : (start p q : Page) (s t : List ℕ) → p ≡ putText start s → q ≡ putText p t → q ≡ putText start (s ++ t)
 put-then start p q s t e g = g ∙ ap (λ (r : Page). putText r t) e ∙ sym (put-append start s t)
+
+pub put-more :
+    (start p q : Page) (l : List ℕ) (i : ℕ) → i < length l → p ≡ putText start (take i l) → q ≡ putText p (getD l i 0 ∷ []) → q ≡ putText start (take (i + 1) l)
+put-more start p q l i h e g =
+    put-then start p q (take i l) (getD l i 0 ∷ []) e g ∙ ap (putText start) (sym (ap (λ (n : ℕ). take n l) (add-one i) ∙ take-suc l i 0 h))
 
 pub put-fits :
     (bytes s : List ℕ) (at : ℕ) → at + length s ≤ length bytes →

@@ -45,7 +45,7 @@ fn write_labels(labels: [u8; 256]) {
 fn put_factors(out: &mut [u8], to: usize, number: u8, factors: &[u8]) -> usize {
     let behind = text::put(out, to, b' ');
     if number == 0 {
-        return text::put_row(out, behind, factors);
+        return text_rows::put_row(out, behind, factors);
     }
     text::put_all(out, behind, b"--")
 }
@@ -123,7 +123,7 @@ fn write_marks(f: usize, marks: &[u8]) {
     let end = text::put_all(&mut out, 0, b"marks");
     let end = text::put_next(&mut out, end, f as u64);
     let end = text::put(&mut out, end, b' ');
-    let end = text::put_row(&mut out, end, marks);
+    let end = text_rows::put_row(&mut out, end, marks);
     page::write(&mut out, end);
 }
 

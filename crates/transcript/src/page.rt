@@ -14,5 +14,5 @@ pub(crate) fn write(out: &mut [u8], to: usize) {
 // A blank and bytes in hexadecimal.
 pub(crate) fn put_next_hex(out: &mut [u8], to: usize, bytes: &[u8]) -> usize {
     let behind = text::put(out, to, b' ');
-    text::put_hex(out, behind, bytes)
+    text_rows::put_hex(out, behind, bytes)
 }

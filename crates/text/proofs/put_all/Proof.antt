@@ -1,26 +1,24 @@
 -- `text::put_all` meets its contract: after i turns the page holds the text of the first i. Assumes nothing.
-use Prim.Native.Nat.{_+_, _-_, _%_, _≤_}
+use Prim.Native.Nat.{_-_, _≤_}
 use mathlib.Core.Path.{_≡_, refl, ap, _∙_}
-use mathlib.Core.List.{[], _∷_}
 use native.Mathlib.Omega.{arith}
 use lib.ListN.{length, take}
 use lib.Seq.{take-all}
 use Rattle.text.specs.Page.{page, putText}
-use Rattle.text.specs.Digits.{spelled, hexByte}
-use Rattle.text.proofs.Spelled.{spelled-more, spelled-all, spelled-itself}
+use Rattle.text.proofs.Pages.{put-more}
 use borrow.Author.Needs.{needs}
 use Rattle.text.proofs.put_all.Statement.{statement}
 use Rattle.text.proofs.put_all.Tie as tie
 
 abbrev Inv-loop : tie.InvT-loop
 Inv-loop out₀ to bytes end₀ i₀ out end i =
-    (i ≤ length bytes) × (length out ≡ length out₀) × (page out end ≡ putText (page out₀ to) (spelled (λ x. x ∷ []) (take i bytes)))
+    (i ≤ length bytes) × (length out ≡ length out₀) × (page out end ≡ putText (page out₀ to) (take i bytes))
 
 abbrev μ-loop : tie.MeasureT-loop
 μ-loop out₀ to bytes end₀ i₀ out end i = length bytes - i
 
 loop-holds : tie.Need-loop-holds Inv-loop μ-loop
-unfolding spelled putText
+unfolding putText
 loop-holds c = (search needs, search needs, refl)
 
 shared-slice-read-put : tie.Need-shared-slice-read-put Inv-loop μ-loop
@@ -39,7 +37,7 @@ loop-again : tie.Need-loop-again Inv-loop μ-loop
 loop-again c =
     let l = c .before .before .before .before .before .before .loop in
     let start = c .before .before .before .before .before .before .before .before .before .args in
-    (search needs, search needs, spelled-more (λ x. x ∷ []) (page (start .out .now) (start .to)) (page (l .out) (l .end)) _ (start .bytes .now) (l .i) (omega arith) (l .inv .2) (c .before .before .put .ensures))
+    (search needs, search needs, put-more (page (start .out .now) (start .to)) (page (l .out) (l .end)) _ (start .bytes .now) (l .i) (omega arith) (l .inv .2) (c .before .before .put .ensures))
 
 same-length : tie.Need-same-length Inv-loop μ-loop
 same-length c = search needs
@@ -48,7 +46,7 @@ returns : tie.Need-returns Inv-loop μ-loop
 returns c =
     let l = c .before .loop in
     let start = c .before .before .before .before .args in
-    spelled-all (λ x. x ∷ []) (page (start .out .now) (start .to)) (page (l .out) (l .end)) (start .bytes .now) (l .i) (omega arith) (l .inv .2) ∙ ap (putText _) (spelled-itself _)
+    l .inv .2 ∙ ap (putText (page (start .out .now) (start .to))) (take-all (l .i) (start .bytes .now) (omega arith))
 
 pub put-all-spec : {M : Type 1} → statement M
 put-all-spec =

@@ -1,0 +1,67 @@
+-- The text of a listing.
+--     document-case     document 01's reel of two: the definition gives its six lines, letter by letter
+--     listing-fits      a listing of totals of 64 bits has at most 149 characters
+-- Assumes nothing.
+use mathlib.Core.Path.{_≡_, refl}
+use mathlib.Core.Bool.{true, false}
+use mathlib.Core.List.{List, [], _∷_, _++_}
+use Prim.Native.Nat.{ℕ, _+_, _^_, _≤_, _<_}
+use native.Mathlib.Omega.{arith}
+use lib.Dec.{eqb}
+use lib.ListN.{length, length-append}
+use Rattle.bits.specs.Answer.{accepted}
+use Rattle.bits.specs.Letters.{letters}
+use Rattle.bits.proofs.Tests.{either-way}
+use Rattle.text.specs.Digits.{decimal, decimalIn}
+use Rattle.text.proofs.Decimal.{decimal-short}
+use Rattle.reel.specs.Header.{headerAnswer}
+use Rattle.reel.specs.declared.HeaderRead.{HeaderRead}
+use Rattle.reel.specs.declared.HeaderRead.the-variants.{Reel, NoHeader}
+use Rattle.listing_text.specs.Listing.{line, ending, sixLines, listing}
+use Rattle.tally.specs.declared.Totals.{Totals}
+
+pub document-case :
+    listing (accepted (2 ∷ 16 ∷ [])) (record { superframes = 2; lost = 1; clean = 512; mended = 0; bad = 0 })
+    ≡ letters "superframes 2\nlost 1\nclean 512\nmended 0\nbad 0\nend ok\n"
+unfolding listing sixLines line ending letters decimalIn
+document-case = refl
+
+length-line : (word : List ℕ) (n : ℕ) → n < 2 ^ 64 → length (line word n) ≤ length word + 22
+unfolding line
+length-line word n h =
+    let d = decimal-short 19 n (omega (arith, h)) in
+    rw (length-append word ((32 ∷ []) ++ (decimal n ++ (10 ∷ []))), length-append (decimal n) (10 ∷ [])) (omega (arith, d))
+
+length-ending : (promised read : ℕ) → length (ending promised read) ≤ 10
+unfolding ending letters
+length-ending promised read = either-way (eqb promised read) (λ e. rw e (omega arith)) (λ e. rw e (omega arith))
+
+-- each total is a number of 64 bits
+pub record Held (t : Totals) : Type 0 where
+  pub superframes : t .superframes < 2 ^ 64
+  pub lost : t .lost < 2 ^ 64
+  pub clean : t .clean < 2 ^ 64
+  pub mended : t .mended < 2 ^ 64
+  pub bad : t .bad < 2 ^ 64
+
+length-six : (promised : ℕ) (t : Totals) → Held t → length (sixLines promised t) ≤ 149
+unfolding sixLines letters
+length-six promised t h =
+    let a = length-line (letters "superframes") (t .superframes) (h .superframes) in
+    let b = length-line (letters "lost") (t .lost) (h .lost) in
+    let c = length-line (letters "clean") (t .clean) (h .clean) in
+    let d = length-line (letters "mended") (t .mended) (h .mended) in
+    let e = length-line (letters "bad") (t .bad) (h .bad) in
+    let f = length-ending promised (t .superframes) in
+    rw (
+      length-append (line (letters "superframes") (t .superframes)) _,
+      length-append (line (letters "lost") (t .lost)) _,
+      length-append (line (letters "clean") (t .clean)) _,
+      length-append (line (letters "mended") (t .mended)) _,
+      length-append (line (letters "bad") (t .bad)) _,
+    ) (omega (arith, a, b, c, d, e, f))
+
+pub listing-fits : (h : HeaderRead) (t : Totals) → Held t → length (listing (headerAnswer h) t) ≤ 149
+unfolding listing letters
+listing-fits (Reel count offset) t l = length-six count t l
+listing-fits NoHeader t l = let r = length-line (letters "refused") 8 (omega arith) in omega (arith, r)
