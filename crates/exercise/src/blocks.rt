@@ -3,7 +3,7 @@ use crate::pages::Page;
 use crate::words;
 use block::BlockReading;
 
-pub(crate) fn write(line: &[u8], at: usize, page: Page) -> Page {
+pub(crate) fn write(line: &[u8], at: usize, mut page: Page) -> Page {
     let first = words::read_signed(line, at);
     let second = words::read_signed(line, first.next);
     let third = words::read_signed(line, second.next);
@@ -16,7 +16,7 @@ pub(crate) fn write(line: &[u8], at: usize, page: Page) -> Page {
     let codes = [first.value, second.value, third.value, fourth.value];
     let written = block::write(codes, [left.value, right.value]);
     let bits = written.bits;
-    let page = page.number(written.number);
+    page = page.number(written.number);
     if written.number != 0 {
         return page;
     }
@@ -33,7 +33,7 @@ fn told(reading: BlockReading) -> u8 {
     }
 }
 
-pub(crate) fn read(line: &[u8], at: usize, page: Page) -> Page {
+pub(crate) fn read(line: &[u8], at: usize, mut page: Page) -> Page {
     let block = words::read_block(line, at);
     if !words::ended(line, block.next) {
         return page;
@@ -46,12 +46,12 @@ pub(crate) fn read(line: &[u8], at: usize, page: Page) -> Page {
     if number == 4 {
         return page.put(b'2');
     }
-    let page = page.put(b'0');
-    let page = page.next(number as u64);
+    page = page.put(b'0');
+    page = page.next(number as u64);
     page.row(&stood)
 }
 
-pub(crate) fn codes(line: &[u8], at: usize, page: Page) -> Page {
+pub(crate) fn codes(line: &[u8], at: usize, mut page: Page) -> Page {
     let block = words::read_block(line, at);
     if !words::ended(line, block.next) {
         return page;
@@ -60,14 +60,14 @@ pub(crate) fn codes(line: &[u8], at: usize, page: Page) -> Page {
     let answer = block::codes(bits);
     let codes = answer.codes;
     let extra = answer.extra;
-    let page = page.number(answer.number);
+    page = page.number(answer.number);
     if answer.number != 0 {
         return page;
     }
-    let page = page.signed(codes[0]);
-    let page = page.signed(codes[1]);
-    let page = page.signed(codes[2]);
-    let page = page.signed(codes[3]);
-    let page = page.next(words::wide(extra[0]));
+    page = page.signed(codes[0]);
+    page = page.signed(codes[1]);
+    page = page.signed(codes[2]);
+    page = page.signed(codes[3]);
+    page = page.next(words::wide(extra[0]));
     page.next(words::wide(extra[1]))
 }

@@ -32,19 +32,19 @@ fn put_block(page: Page, bits: &[u8; 77]) -> Page {
     page.row(bits)
 }
 
-fn put_read(read: FrameRead, page: Page) -> Page {
+fn put_read(read: FrameRead, mut page: Page) -> Page {
     let first = read.first;
     let second = read.second;
     let third = read.third;
     let fourth = read.fourth;
-    let page = page.number(read.number);
+    page = page.number(read.number);
     if read.number != 0 {
         return page;
     }
-    let page = page.next(read.service as u64);
-    let page = put_block(page, &first);
-    let page = put_block(page, &second);
-    let page = put_block(page, &third);
+    page = page.next(read.service as u64);
+    page = put_block(page, &first);
+    page = put_block(page, &second);
+    page = put_block(page, &third);
     put_block(page, &fourth)
 }
 
@@ -67,8 +67,8 @@ pub(crate) fn read(line: &[u8], at: usize, page: Page) -> Page {
     read_into(letter, line, &mut bytes[0..n], page)
 }
 
-fn put_written(number: u8, lent: &[u8], page: Page) -> Page {
-    let page = page.number(number);
+fn put_written(number: u8, lent: &[u8], mut page: Page) -> Page {
+    page = page.number(number);
     if lent.len() == 0 {
         return page.all(b" -");
     }

@@ -53,11 +53,11 @@ fn called(line: &[u8], page: Page) -> Page {
 
 // The line with its answer and a line end.
 pub(crate) fn answer(line: &[u8]) -> Page {
-    let page = Page::blank();
-    let page = page.all(line);
-    let page = page.all(b" = ");
+    let mut page = Page::blank();
+    page = page.all(line);
+    page = page.all(b" = ");
     let asked = page.count;
-    let page = called(line, page);
+    page = called(line, page);
     if page.count == asked {
         return page.all(b"?\n");
     }

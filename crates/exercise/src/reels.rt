@@ -4,11 +4,11 @@ use crate::words;
 use reel::HeaderRead;
 use reel::RunCount;
 
-fn put_header(bytes: &[u8], page: Page) -> Page {
+fn put_header(bytes: &[u8], mut page: Page) -> Page {
     match reel::read_header(bytes) {
         HeaderRead::Reel { count, offset } => {
-            let page = page.put(b'0');
-            let page = page.next(count as u64);
+            page = page.put(b'0');
+            page = page.next(count as u64);
             page.next(offset as u64)
         }
         HeaderRead::NoHeader => page.put(b'8'),
@@ -33,10 +33,10 @@ pub(crate) fn header(line: &[u8], at: usize, page: Page) -> Page {
     header_into(line, at, &mut bytes[0..n], page)
 }
 
-fn put_count(run: &[u8], page: Page) -> Page {
+fn put_count(run: &[u8], mut page: Page) -> Page {
     match reel::run_count(run) {
         RunCount::Superframes(count) => {
-            let page = page.put(b'0');
+            page = page.put(b'0');
             page.next(count as u64)
         }
         RunCount::NoRun => page.put(b'1'),
@@ -62,10 +62,10 @@ fn mark(run: &mut [u8]) {
     }
 }
 
-fn put_part(run: &[u8], k: usize, page: Page) -> Page {
-    let page = page.number(reel::superframe_number_of(run, k));
+fn put_part(run: &[u8], k: usize, mut page: Page) -> Page {
+    page = page.number(reel::superframe_number_of(run, k));
     let part = reel::superframe_of(run, k);
-    let page = page.next(part.len() as u64);
+    page = page.next(part.len() as u64);
     if part.len() == 0 {
         return page;
     }

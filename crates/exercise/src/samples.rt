@@ -43,7 +43,7 @@ fn asked(way: Way, n: i16, factor: u8) -> Answer {
     }
 }
 
-pub(crate) fn single(way: Way, line: &[u8], at: usize, page: Page) -> Page {
+pub(crate) fn single(way: Way, line: &[u8], at: usize, mut page: Page) -> Page {
     let n = words::read_signed(line, at);
     let factor = words::read_small(line, n.next);
     if !words::ended(line, factor.next) {
@@ -51,7 +51,7 @@ pub(crate) fn single(way: Way, line: &[u8], at: usize, page: Page) -> Page {
     }
     let answer = asked(way, n.value, factor.value);
     if answer.accepted {
-        let page = page.put(b'0');
+        page = page.put(b'0');
         return page.signed(answer.value);
     }
     page.put(b'2')
@@ -80,7 +80,7 @@ fn sum_of(way: Way, factor: u8, start: u64, end: u64) -> u64
     sum
 }
 
-pub(crate) fn swept(way: Way, line: &[u8], at: usize, page: Page) -> Page {
+pub(crate) fn swept(way: Way, line: &[u8], at: usize, mut page: Page) -> Page {
     let factor = words::read_small(line, at);
     let first = words::read_signed(line, factor.next);
     let count = words::read_number(line, first.next, 4096);
@@ -93,7 +93,7 @@ pub(crate) fn swept(way: Way, line: &[u8], at: usize, page: Page) -> Page {
         return page;
     }
     let sum = sum_of(way, factor.value, start, end);
-    let page = page.put(b'0');
+    page = page.put(b'0');
     page.next(sum)
 }
 
@@ -117,10 +117,10 @@ fn read_samples(line: &[u8], at: usize, samples: &mut [i16]) -> usize {
     if words::ended(line, next) { count } else { 0 }
 }
 
-fn chosen(samples: &[i16], page: Page) -> Page {
+fn chosen(samples: &[i16], mut page: Page) -> Page {
     match sample::factor_of(samples) {
         Chosen::Factor(factor) => {
-            let page = page.put(b'0');
+            page = page.put(b'0');
             page.next(factor as u64)
         }
         Chosen::Refused => page.put(b'1'),

@@ -3,7 +3,7 @@ use crate::pages::Page;
 use crate::words;
 use scale::Reading;
 
-pub(crate) fn write(line: &[u8], at: usize, page: Page) -> Page {
+pub(crate) fn write(line: &[u8], at: usize, mut page: Page) -> Page {
     let left = words::read_small(line, at);
     let right = words::read_small(line, left.next);
     if !words::ended(line, right.next) {
@@ -11,14 +11,14 @@ pub(crate) fn write(line: &[u8], at: usize, page: Page) -> Page {
     }
     let written = scale::write(left.value, right.value);
     let bits = written.bits;
-    let page = page.number(written.number);
+    page = page.number(written.number);
     if written.number != 0 {
         return page;
     }
     page.row(&bits)
 }
 
-pub(crate) fn read(line: &[u8], at: usize, page: Page) -> Page {
+pub(crate) fn read(line: &[u8], at: usize, mut page: Page) -> Page {
     let mut bits = [0u8; 42];
     let next = words::read_row(line, at, &mut bits);
     if !words::ended(line, next) {
@@ -26,8 +26,8 @@ pub(crate) fn read(line: &[u8], at: usize, page: Page) -> Page {
     }
     match scale::read(bits) {
         Reading::Factors(left, right) => {
-            let page = page.put(b'0');
-            let page = page.next(left as u64);
+            page = page.put(b'0');
+            page = page.next(left as u64);
             page.next(right as u64)
         }
         Reading::Unreadable => page.put(b'5'),
@@ -35,21 +35,21 @@ pub(crate) fn read(line: &[u8], at: usize, page: Page) -> Page {
     }
 }
 
-pub(crate) fn extra(line: &[u8], at: usize, page: Page) -> Page {
+pub(crate) fn extra(line: &[u8], at: usize, mut page: Page) -> Page {
     let mut bits = [0u8; 64];
     let next = words::read_row(line, at, &mut bits);
     if !words::ended(line, next) {
         return page;
     }
     let answer = scale::read_extra(bits);
-    let page = page.number(answer.number);
+    page = page.number(answer.number);
     if answer.number == 2 {
         return page;
     }
     if answer.number != 0 {
         return page.next(answer.word as u64);
     }
-    let page = page.next(answer.left as u64);
-    let page = page.next(answer.right as u64);
+    page = page.next(answer.left as u64);
+    page = page.next(answer.right as u64);
     page.next(answer.word as u64)
 }

@@ -66,28 +66,28 @@ fn put_labels(page: Page, labels: &[u8; 256]) -> Page {
     page.hex(labels)
 }
 
-fn put_state(page: Page, state: State) -> Page {
+fn put_state(mut page: Page, state: State) -> Page {
     let next = state.next;
     let after = state.after;
     let group = state.group;
     let labels = state.labels;
-    let page = put_channels(page, &next);
-    let page = put_channels(page, &after);
-    let page = put_byte(page, state.position);
-    let page = put_byte(page, state.stage);
-    let page = put_channels(page, &group);
+    page = put_channels(page, &next);
+    page = put_channels(page, &after);
+    page = put_byte(page, state.position);
+    page = put_byte(page, state.stage);
+    page = put_channels(page, &group);
     put_labels(page, &labels)
 }
 
-pub(crate) fn fresh(line: &[u8], at: usize, page: Page) -> Page {
+pub(crate) fn fresh(line: &[u8], at: usize, mut page: Page) -> Page {
     if !words::ended(line, at) {
         return page;
     }
-    let page = page.put(b'0');
+    page = page.put(b'0');
     put_state(page, State::fresh())
 }
 
-pub(crate) fn lose(line: &[u8], at: usize, page: Page) -> Page {
+pub(crate) fn lose(line: &[u8], at: usize, mut page: Page) -> Page {
     let read = read_state(line, at);
     if !words::ended(line, read.next) {
         return page;
@@ -95,7 +95,7 @@ pub(crate) fn lose(line: &[u8], at: usize, page: Page) -> Page {
     let state = read.state;
     let lost = state.lose();
     let next = lost.next;
-    let page = page.number(lost.number);
+    page = page.number(lost.number);
     put_state(page, next)
 }
 
@@ -106,18 +106,18 @@ fn put_given(page: Page, complete: bool, labels: &[u8; 256]) -> Page {
     page.all(b" -")
 }
 
-fn serve(state: State, six: [u8; 6], sync: [u8; 16], page: Page) -> Page {
+fn serve(state: State, six: [u8; 6], sync: [u8; 16], mut page: Page) -> Page {
     let served = state.take_service(six, sync);
     let labels = served.labels;
     let next = served.next;
     if served.number == 2 {
-        let page = page.put(b'2');
+        page = page.put(b'2');
         return put_state(page, next);
     }
-    let page = page.put(b'0');
-    let page = page.next(served.position as u64);
-    let page = page.next(served.number as u64);
-    let page = put_given(page, served.complete, &labels);
+    page = page.put(b'0');
+    page = page.next(served.position as u64);
+    page = page.next(served.number as u64);
+    page = put_given(page, served.complete, &labels);
     put_state(page, next)
 }
 
