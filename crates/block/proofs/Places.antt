@@ -1,21 +1,18 @@
 -- Laws of the 77 bits.
---     code-bit-is           bit k of a code by a shift
 --     length-sound, below-sound, sound-at      the 44 protected sound bits, and which stands where
 --     length-rest, below-rest, rest-at         the 12 unprotected ones
 --     length-block, at-sound, at-check, at-rest, at-extra      the whole block, and which bit stands where
 --     length-fourteen, below-fourteen, fourteen-at             the 14 bits of a channel, and where they stand
---     last-two                                                 a list's last two elements
 -- Assumes nothing.
 use mathlib.Core.Path.{_≡_, sym, ap, _∙_}
-use mathlib.Core.List.{List, [], _∷_, _++_, map}
-use Prim.Native.Nat.{ℕ, suc, _+_, _-_, _*_, _/_, _%_, _^_, _<_, _≤_}
-use native.Mathlib.Numerals.{add-one}
+use mathlib.Core.List.{List, _++_, map}
+use Prim.Native.Nat.{ℕ, _+_, _-_, _*_, _/_, _%_, _^_, _<_, _≤_}
 use native.Mathlib.Omega.{arith}
 use borrow.Author.Tests.{ltb-true, ltb-false}
 use lib.Dec.{ltb}
 use lib.IntN.{ℤ, pos}
-use lib.ListN.{length, getD, take, drop, length-drop, drop-of-length-le, length-append}
-use lib.Seq.{getD-take, getD-drop, length-take-le, drop-cons}
+use lib.ListN.{length, getD, take, drop, length-drop, length-append}
+use lib.Seq.{getD-take, getD-drop, length-take-le}
 use Rattle.bits.proofs.Table.{getD-front, getD-back}
 use Rattle.bits.proofs.Tests.{either-way}
 use Rattle.code.specs.Generators.{blockGenerator}
@@ -25,14 +22,10 @@ use Rattle.remainder.specs.Remainder.{checkBits}
 use Rattle.remainder.proofs.Division.{length-check, below-check}
 use Rattle.bits.specs.Digits.{value, Below}
 use Rattle.bits.proofs.Digits.{getD-digits, digits-value, below-append, below-take, below-drop}
-use Rattle.sample.specs.Pattern.{codeBits, patternOf}
+use Rattle.sample.specs.Pattern.{codeBits}
 use Rattle.sample.proofs.Patterns.{length-codeBits, below-codeBits}
 use Rattle.block.specs.Layout.{joined, upper, lower, sound, rest, blockOf, fourteen, placeOf}
 use Rattle.block.proofs.Joined.{length-joined, getD-joined, below-joined}
-
-pub code-bit-is : (c : ℤ) (k : ℕ) → k < 14 → patternOf 8192 c / 2 ^ (13 - k) % 2 ≡ getD (codeBits c) k 0
-unfolding codeBits
-code-bit-is c k h = sym (getD-digits 2 14 (patternOf 8192 c) k h)
 
 length-upper : (c : ℤ) → length (upper c) ≡ 11
 length-upper c = length-take-le 11 (codeBits c) (omega (arith, length-codeBits c))
@@ -126,12 +119,6 @@ module _ (codes : List ℤ) (extra : List ℕ) (four : length codes ≡ 4) where
       sym
       (getD-back (encode blockGenerator (sound codes)) (rest codes ++ extra) 63 j 0 length-63 (omega arith)
       ∙ getD-back (rest codes) extra 12 (j - 63) 0 length-12 (omega arith) ∙ ap (λ (n : ℕ). getD extra n 0) two)
-
-pub last-two : (l : List ℕ) (n : ℕ) → length l ≡ n + 2 → drop n l ≡ getD l n 0 ∷ getD l (n + 1) 0 ∷ []
-last-two l n e =
-    let one : n < length l = omega arith in
-    let two : suc n < length l = omega arith in
-    drop-cons l n 0 one ∙ rw (drop-cons l (suc n) 0 two, drop-of-length-le l {i = suc (suc n)} (omega arith), ← add-one n)
 
 -- ---- a channel's bits taken out of a block
 module _ (block : List ℕ) (size : length block ≡ 77) (c : ℕ) (h : c < 4) where

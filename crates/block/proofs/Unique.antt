@@ -4,16 +4,12 @@
 use mathlib.Core.Path.{_≡_, refl, ap₂}
 use mathlib.Core.List.{List}
 use Prim.Native.Nat.{ℕ}
-use lib.IntN.{ℤ}
 use Rattle.bits.proofs.Unique.{same, same-through}
 use Rattle.bits.proofs.Answer.{first}
-use Rattle.block.specs.Layout.{writtenBlock, codesOf}
 use Rattle.block.specs.Read.{Said, clean, mended, bad, told, IsRead}
 use Rattle.block.specs.declared.BlockReading.{BlockReading}
 use Rattle.block.specs.declared.BlockReading.the-variants.{Clean, Mended, Bad, OutOfRange}
 use Rattle.block.specs.declared.BlockRead.{BlockRead}
-use Rattle.block.specs.declared.BlockWritten.{BlockWritten}
-use Rattle.block.specs.declared.BlockCodes.{BlockCodes}
 
 spoken : Said → BlockReading
 spoken clean = Clean
@@ -26,12 +22,6 @@ told-back Clean = refl
 told-back (Mended n) = refl
 told-back Bad = refl
 told-back OutOfRange = refl
-
-pub write-unique : (codes : List ℤ) (extra : List ℕ) (r r' : BlockWritten) → r ≡ writtenBlock codes extra → r' ≡ writtenBlock codes extra → r ≡ r'
-write-unique codes extra r r' = same
-
-pub codes-unique : (block : List ℕ) (r r' : BlockCodes) → r ≡ codesOf block → r' ≡ codesOf block → r ≡ r'
-codes-unique block r r' = same
 
 pub read-unique : (block : List ℕ) (r r' : BlockRead) → IsRead block r → IsRead block r' → r ≡ r'
 read-unique block r r' p q =

@@ -14,7 +14,7 @@ pub(crate) fn write(line: &[u8], at: usize, mut page: Page) -> Page {
         return page;
     }
     let codes = [first.value, second.value, third.value, fourth.value];
-    let written = block::write(codes, [left.value, right.value]);
+    let written = block_writer::write(codes, [left.value, right.value]);
     let bits = written.bits;
     page = page.number(written.number);
     if written.number != 0 {
@@ -57,7 +57,7 @@ pub(crate) fn codes(line: &[u8], at: usize, mut page: Page) -> Page {
         return page;
     }
     let bits = block.bits;
-    let answer = block::codes(bits);
+    let answer = block_codes::codes_of(bits);
     let codes = answer.codes;
     let extra = answer.extra;
     page = page.number(answer.number);

@@ -107,7 +107,7 @@ fn write_into(is_b: bool, service: u8, blocks: Blocks, lent: &mut [u8]) -> u8 {
     let second = blocks.second;
     let third = blocks.third;
     let fourth = blocks.fourth;
-    frame::write(letter_of(is_b), service, first, second, third, fourth, lent)
+    frame_writer::write(letter_of(is_b), service, first, second, third, fourth, lent)
 }
 
 fn put_lent(is_b: bool, service: u8, blocks: Blocks, lent: &mut [u8], page: Page) -> Page {

@@ -1,8 +1,6 @@
 pub mod Interleave
 pub mod Parts
 pub mod Sync
-pub mod Writing
 pub mod Places
-pub mod Back
-pub mod Burst
+pub mod Reading
 pub mod Unique

@@ -3,10 +3,16 @@ use mathlib.Core.Path.{_≡_}
 use mathlib.Core.List.{List}
 use Prim.Native.Nat.{ℕ}
 use Rattle.bits.proofs.Unique.{same}
+use Rattle.frame.specs.Frame.{syncWord, serviceIn}
 use Rattle.frame.specs.Read.{wrongSync, serviceRead, blockOf, readFrame}
-use Rattle.frame.specs.Write.{Written}
 use Rattle.frame.specs.declared.FrameRead.{FrameRead}
 use Rattle.frame.specs.declared.Letter.{Letter}
+
+pub sync-of-unique : (letter : Letter) (r r' : List ℕ) → r ≡ syncWord letter → r' ≡ syncWord letter → r ≡ r'
+sync-of-unique letter r r' = same
+
+pub carried-unique : (letter : Letter) (s r r' : ℕ) → r ≡ serviceIn letter s → r' ≡ serviceIn letter s → r ≡ r'
+carried-unique letter s r r' = same
 
 module _ (letter : Letter) (bytes : List ℕ) where
   pub sync-errors-unique : (r r' : ℕ) → r ≡ wrongSync letter bytes → r' ≡ wrongSync letter bytes → r ≡ r'
@@ -20,8 +26,3 @@ module _ (letter : Letter) (bytes : List ℕ) where
 
 pub block-of-unique : (bytes : List ℕ) (b : ℕ) (r r' : List ℕ) → r ≡ blockOf bytes b → r' ≡ blockOf bytes b → r ≡ r'
 block-of-unique bytes b r r' = same
-
--- the number, and what the buffer holds
-pub write-unique : (letter : Letter) (s : ℕ) (blocks : List (List ℕ)) (out : List ℕ) (r r' : ℕ) (out' out″ : List ℕ)
-    → Written letter s blocks out r out' → Written letter s blocks out r' out″ → (r ≡ r') × (out' ≡ out″)
-write-unique letter s blocks out r r' out' out″ p q = (same (p .number) (q .number), same (p .buffer) (q .buffer))

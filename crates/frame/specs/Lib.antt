@@ -1,4 +1,2 @@
 pub mod Frame
 pub mod Read
-pub mod Write
-pub mod Burst

@@ -8,20 +8,18 @@
 --     found s blocks             number 0, a service bit and four blocks
 --     blocksOf r                 the four blocks of an answer
 --     readFrame letter bytes     THE ANSWER: number 1 for another length than 40 bytes, then 3 for a wrong sync
---     serviceCleared letter bytes   A as it is; B with its service bit 0
 use mathlib.Core.Bool.{cond}
 use mathlib.Core.List.{List, [], _∷_}
 use Prim.Native.Nat.{ℕ}
 use lib.Dec.{eqb, leb, ltb}
-use lib.ListN.{length, set}
+use lib.ListN.{length}
 use Rattle.bits.specs.Table.{tabulate}
-use Rattle.bits.specs.Bits.{bitAt, bitsOf, bytesOf}
+use Rattle.bits.specs.Bits.{bitAt, bitsOf}
 use Rattle.remainder.specs.Polynomial.{zeros}
 use Rattle.code.specs.Words.{distance}
 use Rattle.frame.specs.Frame.{syncWord, serviceIn, block, deinterleave}
 use Rattle.frame.specs.declared.FrameRead.{FrameRead}
 use Rattle.frame.specs.declared.Letter.{Letter}
-use Rattle.frame.specs.declared.Letter.the-variants.{A, B}
 
 unfoldable pub wrongSync : Letter → List ℕ → ℕ
 wrongSync letter bytes = distance (syncWord letter) (tabulate 11 (bitAt bytes))
@@ -55,8 +53,3 @@ readFrame letter bytes =
     (found (serviceRead letter bytes) (blocksIn bytes))
     (nothing 3))
     (nothing 1)
-
--- B's service bit is 0 where a frame is written, whatever stood there when it was read
-unfoldable pub serviceCleared : Letter → List ℕ → List ℕ
-serviceCleared A bytes = bytes
-serviceCleared B bytes = bytesOf (set (bitsOf bytes) 11 0)

@@ -1,11 +1,7 @@
-// Main frames, read and written (document 01, "Main frame"): 320 bits in 40 bytes, two kinds, A and B.
+// Main frames, their layout and how they are read (document 01, "Main frame"): 320 bits in 40 bytes, two kinds, A and B.
 ghost use mathlib.Core.Path.{_≡_};
-ghost use mathlib.Core.List.{[], _∷_, _++_};
-ghost use lib.ListN.{length};
-ghost use Rattle.bits.specs.Bits.{bytesOf};
-ghost use Rattle.frame.specs.Frame.{syncWord, serviceIn, interleave};
+ghost use Rattle.frame.specs.Frame.{syncWord, serviceIn};
 ghost use Rattle.frame.specs.Read.{wrongSync, serviceRead, blockOf, nothing, readFrame};
-ghost use Rattle.frame.specs.Write.{goodValues, writeNumber, Written};
 
 pub enum Letter {
     A,
@@ -29,7 +25,7 @@ const SYNC_B: [u8; 11] = [0, 0, 0, 1, 1, 1, 0, 1, 1, 0, 1];
 // How many wrong bits a sync may have.
 pub const MOST_WRONG: u8 = 0;
 
-fn sync_of(letter: Letter) -> [u8; 11]
+pub fn sync_of(letter: Letter) -> [u8; 11]
     ensures { λ r. ⌜ r ≡ syncWord letter ⌝ }
 {
     match letter {
@@ -53,7 +49,7 @@ pub fn sync_errors(letter: Letter, bytes: &[u8]) -> u8
 }
 
 // What a frame of a letter carries of a service bit: B carries none, it is written 0 and handed out as 0.
-fn carried(letter: Letter, service: u8) -> u8
+pub fn carried(letter: Letter, service: u8) -> u8
     ensures { λ r. ⌜ r ≡ serviceIn letter service ⌝ }
 {
     match letter {
@@ -116,120 +112,4 @@ pub fn read(letter: Letter, bytes: &[u8]) -> FrameRead
         third: block_of(bytes, 2),
         fourth: block_of(bytes, 3),
     }
-}
-
-fn interleaved(lower: [u8; 77], higher: [u8; 77]) -> [u8; 154]
-    ensures { λ r. ⌜ r ≡ interleave lower higher ⌝ }
-{
-    let mut out = [0u8; 154];
-    let mut j: usize = 0;
-    while j < 77 {
-        out[2 * j] = lower[j];
-        out[2 * j + 1] = higher[j];
-        j += 1;
-    }
-    out
-}
-
-// All 320 bits, of the service bit as it is sent and two interleaved pairs.
-fn joined(letter: Letter, service: u8, front: [u8; 154], back: [u8; 154]) -> [u8; 320]
-    ensures { λ r. ⌜ r ≡ syncWord letter ++ (service ∷ (front ++ back)) ⌝ }
-{
-    let sync = sync_of(letter);
-    let mut out = [0u8; 320];
-    let mut k: usize = 0;
-    while k < 320 {
-        let bit = if k < 11 {
-            sync[k]
-        } else if k == 11 {
-            service
-        } else if k < 166 {
-            front[k - 12]
-        } else {
-            back[k - 166]
-        };
-        out[k] = bit;
-        k += 1;
-    }
-    out
-}
-
-fn fill(bits: [u8; 320], out: &mut [u8])
-    requires { ⌜ length (now out) ≡ 40 ⌝ }
-    ensures { λ _. ⌜ now (out .exit) ≡ bytesOf bits ⌝ }
-{
-    let mut i: usize = 0;
-    while i < 40 {
-        out[i] = bits::byte_from(&bits, 8 * i);
-        i += 1;
-    }
-}
-
-// Whether all that is to be written is bits.
-fn are_values(
-    service: u8,
-    first: [u8; 77],
-    second: [u8; 77],
-    third: [u8; 77],
-    fourth: [u8; 77],
-) -> bool
-    ensures { λ r. ⌜ r ≡ goodValues service (first ∷ second ∷ third ∷ fourth ∷ []) ⌝ }
-{
-    if 1 < service {
-        return false;
-    }
-    if !bits::are_bits(&first) {
-        return false;
-    }
-    if !bits::are_bits(&second) {
-        return false;
-    }
-    if !bits::are_bits(&third) {
-        return false;
-    }
-    bits::are_bits(&fourth)
-}
-
-// The number that writing into a buffer of some size gives.
-fn write_number(
-    size: usize,
-    service: u8,
-    first: [u8; 77],
-    second: [u8; 77],
-    third: [u8; 77],
-    fourth: [u8; 77],
-) -> u8
-    ensures { λ r. ⌜ r ≡ writeNumber size service (first ∷ second ∷ third ∷ fourth ∷ []) ⌝ }
-{
-    if size != 40 {
-        return 1;
-    }
-    if are_values(service, first, second, third, fourth) {
-        0
-    } else {
-        2
-    }
-}
-
-pub fn write(
-    letter: Letter,
-    service: u8,
-    first: [u8; 77],
-    second: [u8; 77],
-    third: [u8; 77],
-    fourth: [u8; 77],
-    out: &mut [u8],
-) -> u8
-    ensures { λ r. ⌜ Written letter service (first ∷ second ∷ third ∷ fourth ∷ []) (now (out .entry)) r (now (out .exit)) ⌝ }
-{
-    let number = write_number(out.len(), service, first, second, third, fourth);
-    if number != 0 {
-        return number;
-    }
-    let sent = carried(letter, service);
-    let front = interleaved(first, second);
-    let back = interleaved(third, fourth);
-    let bits = joined(letter, sent, front, back);
-    fill(bits, &mut *out);
-    number
 }

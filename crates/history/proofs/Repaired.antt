@@ -21,14 +21,15 @@ use Rattle.code.specs.Generators.{blockGenerator}
 use Rattle.code.specs.Words.{encode}
 use Rattle.sample.specs.Sample.{sampleOf}
 use Rattle.sample.specs.Pattern.{bitsCode}
-use Rattle.block.specs.Layout.{sound, rest, fourteen, placeOf, codeAt, codesAt, codesOf}
+use Rattle.block.specs.Layout.{sound, rest, fourteen, placeOf}
 use Rattle.block.specs.Layout as L
 use Rattle.block.specs.Read.{saidWith, handedOn}
-use Rattle.block.specs.declared.BlockCodes.{BlockCodes}
 use Rattle.block.specs.Demand.{Sent}
 use Rattle.block.proofs.Places.{length-sound, length-rest, below-sound, below-rest, length-63, length-block, at-sound, length-fourteen, fourteen-at}
 use Rattle.block.proofs.Demand.{heard, third}
-use Rattle.block.proofs.Back.{written-clean, written-codes}
+use Rattle.block_codes.specs.Codes.{codeAt, codesAt, codesOf}
+use Rattle.block_codes.specs.declared.BlockCodes.{BlockCodes}
+use Rattle.block_writer.proofs.Back.{written-clean, written-codes}
 use Rattle.tape.specs.Tape.{blockIn, markOf, blockMark}
 use Rattle.tape.specs.Sound.{soundAt, markWith, codeIn, sampleAt, markAt}
 use Rattle.history.specs.Calls.{SentIn}

@@ -16,6 +16,7 @@ use Rattle.tape.specs.Tape.{synced, blocksOf, noBlocks, refusedCounts, countedW
 use Rattle.tally.specs.Totals.{grown, sumOf, noTotals, withCounted, stepped, totalsFrom, totalsOf}
 use Rattle.tally.specs.Reel.{isLost, blocksWith, total, counted, Superframes}
 use Rattle.tally.specs.declared.Totals.{Totals}
+use Rattle.tally.proofs.Order.{tallied-sum}
 use Rattle.tally.proofs.Whole.{blocks-whole}
 
 -- two sets of totals, added
@@ -45,6 +46,12 @@ grown-room : (a b n : ℕ) → a + 512 * suc n ≤ 2 ^ 64 - 1 → b ≤ 512 → 
 unfolding grown
 grown-room a b n h l = min-eq-left (omega (arith, h, l))
 
+same-totals : (a b c d e a' b' c' d' e' : ℕ) → a ≡ a' → b ≡ b' → c ≡ c' → d ≡ d' → e ≡ e' →
+    _≡_ {A = Totals}
+    (record { superframes = a; lost = b; clean = c; mended = d; bad = e })
+    (record { superframes = a'; lost = b'; clean = c'; mended = d'; bad = e' })
+same-totals a b c d e a' b' c' d' e' p q r s t = rw (p, q, r, s, t) refl
+
 withOne : (t : Totals) (sf : List ℕ) → length sf ≡ 5120 →
     stepped t sf ≡
     record {
@@ -55,7 +62,15 @@ withOne : (t : Totals) (sf : List ℕ) → length sf ≡ 5120 →
       bad = grown (t .bad) (blocksWith 2 sf);
     }
 unfolding stepped withCounted countsOf countedWith refusedCounts isLost blocksWith blocksOf noBlocks sumOf
-withOne t sf l = rw (eq-eqb (length sf) 5120 l) (either-way (synced sf) (λ e. rw e refl) (λ e. rw e refl))
+withOne t sf l =
+    rw (eq-eqb (length sf) 5120 l)
+    (either-way (synced sf)
+    (λ e. rw e
+    (same-totals _ _ _ _ _ _ _ _ _ _ refl refl
+    (ap (grown (t .clean)) (tallied-sum 0 sf))
+    (ap (grown (t .mended)) (tallied-sum 1 sf))
+    (ap (grown (t .bad)) (tallied-sum 2 sf))))
+    (λ e. rw e refl))
 
 step-adds : (t : Totals) (sf : List ℕ) (n : ℕ) → length sf ≡ 5120 → Room t (suc n) → stepped t sf ≡ added t (one sf)
 step-adds t sf n l r =
@@ -79,12 +94,6 @@ room-left t sf n r =
       mended = omega (arith, r .mended, w);
       bad = omega (arith, r .bad, w);
     }
-
-same-totals : (a b c d e a' b' c' d' e' : ℕ) → a ≡ a' → b ≡ b' → c ≡ c' → d ≡ d' → e ≡ e' →
-    _≡_ {A = Totals}
-    (record { superframes = a; lost = b; clean = c; mended = d; bad = e })
-    (record { superframes = a'; lost = b'; clean = c'; mended = d'; bad = e' })
-same-totals a b c d e a' b' c' d' e' p q r s t = rw (p, q, r, s, t) refl
 
 from-counted : (t : Totals) (sfs : List (List ℕ)) → Superframes sfs → Room t (length sfs) → totalsFrom t sfs ≡ added t (counted sfs)
 unfolding totalsFrom counted total Superframes

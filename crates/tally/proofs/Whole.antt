@@ -7,13 +7,11 @@ use mathlib.Core.List.{List, [], _∷_}
 use Prim.Native.Nat.{ℕ, zero, suc, _+_, _*_}
 use native.Mathlib.Omega.{arith}
 use lib.Dec.{eqb}
-use Rattle.bits.specs.Table.{tabulate}
+use lib.ListN.{getD}
 use Rattle.bits.proofs.Tests.{either-way}
 use Rattle.block.specs.Read.{Said, clean, mended, bad}
-use Rattle.tape.specs.Tape.{synced, readingIn, markOf, blockMark, howMany, tallied}
-use Rattle.tally.specs.Totals.{sumOf}
-use Rattle.tally.specs.Reel.{isLost, blocksWith}
-use Rattle.tally.proofs.Sums.{sum-snoc}
+use Rattle.tape.specs.Tape.{synced, readings, markOf, howMany}
+use Rattle.tally.specs.Reel.{isLost, markOnTape, blocksWith}
 
 -- 1 where the mark is m
 abbrev is : ℕ → ℕ → ℕ
@@ -32,19 +30,6 @@ unfolding howMany
 all-marked zero r = refl
 all-marked (suc n) r = let h = all-marked n r in let o = one-mark (r n) in omega (arith, h, o)
 
--- lists of n numbers each that add up to 64 place by place
-sums-whole : (n : ℕ) (a b c : ℕ → ℕ) → ((i : ℕ) → a i + (b i + c i) ≡ 64) → sumOf (tabulate n a) + (sumOf (tabulate n b) + sumOf (tabulate n c)) ≡ 64 * n
-unfolding tabulate sumOf
-sums-whole zero a b c e = refl
-sums-whole (suc n) a b c e =
-    let h = sums-whole n a b c e in
-    let o = e n in
-    rw (sum-snoc (tabulate n a) (a n), sum-snoc (tabulate n b) (b n), sum-snoc (tabulate n c) (c n)) (omega (arith, h, o))
-
-marks-whole : (sf : List ℕ) → sumOf (tallied 0 sf) + (sumOf (tallied 1 sf) + sumOf (tallied 2 sf)) ≡ 512
-unfolding tallied blockMark
-marks-whole sf = sums-whole 8 _ _ _ (λ p. all-marked 64 (λ f. readingIn sf f p))
-
 pub blocks-whole : (sf : List ℕ) → 512 * isLost sf + (blocksWith 0 sf + (blocksWith 1 sf + blocksWith 2 sf)) ≡ 512
-unfolding isLost blocksWith
-blocks-whole sf = let w = marks-whole sf in either-way (synced sf) (λ e. rw e (omega (arith, w))) (λ e. rw e refl)
+unfolding isLost blocksWith markOnTape
+blocks-whole sf = let w = all-marked 512 (λ t. getD (readings sf) t bad) in either-way (synced sf) (λ e. rw e (omega (arith, w))) (λ e. rw e refl)

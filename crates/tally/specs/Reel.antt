@@ -1,5 +1,6 @@
 -- What the totals of a listing are, in document 01's words: "superframes counts the whole ones read, lost ones among them".
 --     isLost sf             1 for a superframe with a wrong sync, else 0
+--     markOnTape sf t       the mark of block t of its 512, in tape order
 --     blocksWith m sf       how many of its 512 blocks have mark m (0 clean, 1 mended, 2 bad); none of a lost one
 --     total f sfs           the sum of a number over some superframes
 --     counted sfs           all five totals of some superframes
@@ -8,16 +9,20 @@ use Prim.Native.Nat.{ℕ, _+_}
 use mathlib.Core.Path.{_≡_}
 use mathlib.Core.Bool.{cond}
 use mathlib.Core.List.{List, [], _∷_}
-use lib.ListN.{length}
-use Rattle.tape.specs.Tape.{synced, tallied}
-use Rattle.tally.specs.Totals.{sumOf}
+use lib.Dec.{eqb}
+use lib.ListN.{length, getD}
+use Rattle.block.specs.Read.{bad}
+use Rattle.tape.specs.Tape.{synced, readings, markOf, howMany}
 use Rattle.tally.specs.declared.Totals.{Totals}
 
 unfoldable pub isLost : List ℕ → ℕ
 isLost sf = cond (synced sf) 0 1
 
+unfoldable pub markOnTape : List ℕ → ℕ → ℕ
+markOnTape sf t = markOf (getD (readings sf) t bad)
+
 unfoldable pub blocksWith : ℕ → List ℕ → ℕ
-blocksWith m sf = cond (synced sf) (sumOf (tallied m sf)) 0
+blocksWith m sf = cond (synced sf) (howMany 512 (λ t. eqb (markOnTape sf t) m)) 0
 
 unfoldable pub total : (List ℕ → ℕ) → List (List ℕ) → ℕ
 total f [] = 0

@@ -40,9 +40,10 @@ use Rattle.sample.specs.Pattern.{bitsCode}
 use Rattle.sample.specs.declared.Sampled.{Sampled}
 use Rattle.sample.specs.declared.Sampled.the-variants.{Sample, Refused}
 use Rattle.sample.proofs.Patterns.{signed-inside}
-use Rattle.block.specs.Layout.{fourteen, codeAt, codesAt, codesOf}
+use Rattle.block.specs.Layout.{fourteen}
 use Rattle.block.specs.Read.{protected, handedOn, IsRead}
 use Rattle.block.specs.declared.BlockRead.{BlockRead}
+use Rattle.block_codes.specs.Codes.{codeAt, codesAt, codesOf}
 use Rattle.tape.specs.Tape.{blockIn, blockMark, blocksOf, refusedCounts, countedWith}
 use Rattle.tape.specs.Marks.{toldMark}
 use Rattle.tape.specs.Sound.{soundAt, markWith, codeIn, sampleAt, markAt, inRows, samplesOf, marksOf, quadIn, lengthsFit, fillNumber, Filled}

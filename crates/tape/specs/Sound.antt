@@ -20,8 +20,8 @@ use lib.IntN.{ℤ, pos}
 use lib.ListN.{length, getD}
 use Rattle.bits.specs.Table.{tabulate}
 use Rattle.sample.specs.Sample.{sampleOf}
-use Rattle.block.specs.Layout.{codeAt, codesAt}
 use Rattle.block.specs.Read.{handedOn}
+use Rattle.block_codes.specs.Codes.{codeAt, codesAt}
 use Rattle.tape.specs.Tape.{synced, blockIn, blockMark, countedWith}
 use Rattle.tape.specs.declared.blocks.Counted.{Counted}
 use Rattle.tape.specs.declared.sound.Quad.{Quad}

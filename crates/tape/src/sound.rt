@@ -24,7 +24,7 @@ fn read_block(sf: &[u8], f: usize, p: usize) -> Quad
     let read = block::read(blocks::block_at(sf, f, p));
     let reading = read.reading;
     let bits = read.bits;
-    let taken = block::codes(bits);
+    let taken = block_codes::codes_of(bits);
     let codes = taken.codes;
     Quad {
         mark: blocks::mark_of(reading),

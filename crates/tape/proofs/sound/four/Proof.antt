@@ -10,8 +10,8 @@ use mir.Syntax.{w16}
 use mir.Val.{toZ, ofZ}
 use mir.ValLaws.{toZ-ofZ}
 use Rattle.bits.proofs.Table.{filled, filled-zero, filled-set, filled-all, length-filled}
-use Rattle.block.specs.Layout.{codesAt}
 use Rattle.block.specs.Read.{handedOn}
+use Rattle.block_codes.specs.Codes.{codesAt}
 use Rattle.tape.specs.Tape.{blockIn}
 use Rattle.tape.specs.Marks.{rowMark}
 use Rattle.tape.specs.Sound.{soundAt, markWith, sampleAt, markAt, inRows, quadIn}

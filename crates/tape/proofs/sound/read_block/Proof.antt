@@ -15,8 +15,8 @@ block-at-requires c κs = search needs
 read-requires : tie.Need-read-requires
 read-requires c κs = search needs
 
-codes-requires : tie.Need-codes-requires
-codes-requires c κs = search needs
+codes-of-requires : tie.Need-codes-of-requires
+codes-of-requires c κs = search needs
 
 mark-of-requires : tie.Need-mark-of-requires
 mark-of-requires c κs = search needs
@@ -27,8 +27,8 @@ returns c =
     let a = read .before .before .before .args in
     let r = read .read .result in
     let is : IsRead _ r = subst (λ (l : List ℕ). IsRead l r) (read .before .block-at .ensures) (read .read .ensures) in
-    rw (c .mark-of .ensures, c .before .before .codes .ensures) (quad-there (a .sf .now) (a .f) (a .p) r (omega arith) (omega arith) is)
+    rw (c .mark-of .ensures, c .before .before .codes-of .ensures) (quad-there (a .sf .now) (a .f) (a .p) r (omega arith) (omega arith) is)
 
 pub read-block-spec : {M : Type 1} → statement M
 read-block-spec =
-    tie.close (tie.spec block-at-requires read-requires codes-requires mark-of-requires returns)
+    tie.close (tie.spec block-at-requires read-requires codes-of-requires mark-of-requires returns)

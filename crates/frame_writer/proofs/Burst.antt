@@ -1,0 +1,173 @@
+-- A run of at most four wrong consecutive bits in bits 13 to 320.
+--     gathered-⊕             gathering a block goes with the sum of rows of bits
+--     burst-two              of a run of four at most two fall into each block
+--     survives               two turned places of a block do it no harm
+--     damaged-block          a block read from a damaged frame is the block sent, with its part of the mask turned
+--     damaged-reads          the frame is still read, with the service bit sent
+--     burst-survives         THE BURST: no block of it is bad, and the 44 protected sound bits of each come back as sent
+-- Assumes nothing.
+use mathlib.Core.Path.{_≡_, sym, ap, _∙_}
+use mathlib.Core.Logic.{_≢_}
+use mathlib.Core.List.{List, _++_}
+use Prim.Native.Nat.{ℕ, zero, suc, _+_, _-_, _*_, _/_, _%_, _<_, _≤_}
+use native.Mathlib.Omega.{arith}
+use lib.ListN.{length, getD, take, drop, take-append-drop, length-drop}
+use lib.Seq.{take-take, length-take-le}
+use Rattle.bits.specs.Digits.{Below}
+use Rattle.bits.specs.Bits.{bitsOf, bytesOf, ones}
+use Rattle.bits.proofs.Table.{tab-ext}
+use Rattle.bits.proofs.Digits.{below-take, below-drop}
+use Rattle.bits.proofs.Bits.{length-bytesOf, bits-back, bit-below}
+use Rattle.bits.proofs.Answer.{accepted-same}
+use Rattle.bits.proofs.Ones.{ones-take, ones-window}
+use Rattle.remainder.specs.Polynomial.{_⊕_}
+use Rattle.remainder.proofs.Sum.{length-⊕, below-⊕, getD-⊕, ⊕-tab, take-⊕}
+use Rattle.code.specs.Words.{CodeWord, encode}
+use Rattle.code.proofs.Distance.{distance-changed}
+use Rattle.reading.specs.Demand.{sent}
+use Rattle.block.specs.Read.{Said, bad, saidWith, saidOf, handedOn}
+use Rattle.block.specs.Demand.{Sent, received}
+use Rattle.block.proofs.Demand.{third}
+use Rattle.frame.specs.Frame.{serviceIn, block, frameBits, placeOf, deinterleave}
+use Rattle.frame.specs.Read.{blockOf, found, readFrame}
+use Rattle.frame.specs.declared.Letter.{Letter}
+use Rattle.frame.proofs.Places.{length-gathered, Sized, length-frame, frame-sync, frame-service, blocks-gathered}
+use Rattle.frame.proofs.Reading.{block-there, reads}
+use Rattle.frame_writer.specs.Write.{Written}
+use Rattle.frame_writer.specs.Burst.{damaged, damagedBlocks, Burst, Survives}
+use Rattle.frame_writer.proofs.Writing.{written-is}
+use Rattle.frame_writer.proofs.Back.{sent-twice, good-blocks, below-frame, frame-bits}
+
+pub gathered-⊕ : (p q : List ℕ) (b : ℕ) → length p ≡ length q → deinterleave (p ⊕ q) b ≡ deinterleave p b ⊕ deinterleave q b
+unfolding deinterleave
+gathered-⊕ p q b h =
+    tab-ext 77 (λ j. getD (p ⊕ q) (placeOf b j) 0) (λ j. (getD p (placeOf b j) 0 + getD q (placeOf b j) 0) % 2) (λ j l. getD-⊕ p q (placeOf b j) h)
+    ∙ sym (⊕-tab 77 (λ j. getD p (placeOf b j) 0) (λ j. getD q (placeOf b j) 0))
+
+-- every second place of four belongs to one block
+pub burst-two : (mask : List ℕ) → Burst mask → (b : ℕ) → ones (deinterleave mask b) ≤ 2
+unfolding deinterleave
+burst-two mask h b =
+    let start : ℕ = 12 + 154 * (b / 2) + b % 2 in
+    ones-window (λ j. getD mask (placeOf b j) 0) ((h .at + 1 - start) / 2) 2
+    (λ j l. h .before (placeOf b j) (omega arith))
+    (λ j l. h .behind (placeOf b j) (omega arith))
+    77
+
+-- ---- two places of a block
+never-bad : (n : ℕ) → saidWith n ≢ bad
+unfolding saidWith
+never-bad zero e = let never : _≡_ {A = ℕ} 0 1 = cc in omega arith
+never-bad (suc n) e = let never : _≡_ {A = ℕ} 0 1 = cc in omega arith
+
+sent-word : (w : List ℕ) → CodeWord w → w ≡ sent (take 44 w)
+unfolding encode
+sent-word w h = sym (take-append-drop 44 w) ∙ ap (λ (l : List ℕ). take 44 w ++ l) (h .checked)
+
+module _ (x m : List ℕ) (size : length x ≡ 77) (places : length m ≡ 77) (bits : Below 2 x) (two : ones m ≤ 2) (word : CodeWord (take 63 x)) where
+  -- the 44 sound bits, the places turned among the 63, and the 14 others as they arrive
+  sound : List ℕ
+  sound = take 44 x
+
+  turned : List ℕ
+  turned = take 63 m
+
+  other : List ℕ
+  other = drop 63 (x ⊕ m)
+
+  arrives : x ⊕ m ≡ received sound turned other
+  unfolding sound turned other
+  arrives =
+      sym (take-append-drop 63 (x ⊕ m))
+      ∙ ap (λ (l : List ℕ). l ++ drop 63 (x ⊕ m))
+      (take-⊕ 63 x m ∙ ap (λ (l : List ℕ). l ⊕ take 63 m) (sent-word (take 63 x) word ∙ ap sent (take-take 44 63 x (omega arith))))
+
+  is-sent : Sent sound turned other
+  unfolding sound turned other
+  is-sent =
+      record {
+        sound-size = length-take-le 44 x (omega arith);
+        sound-bits = below-take 2 44 x bits;
+        mask-size = length-take-le 63 m (omega arith);
+        other-size = length-drop 63 (x ⊕ m) ∙ omega (arith, length-⊕ x m (size ∙ sym places));
+        other-bits = below-drop 2 63 (x ⊕ m) (below-⊕ x m);
+      }
+
+  few : ones turned ≤ 2
+  unfolding turned
+  few = let less = ones-take 63 m in omega arith
+
+  pub survives : Survives x (x ⊕ m)
+  unfolding sound other
+  survives =
+      record {
+        near = rw (distance-changed x m (size ∙ sym places)) two;
+        not-bad = λ e.
+            never-bad (ones turned)
+            (ap (λ (l : List Said). getD l 0 bad) (accepted-same (sym (third .number sound turned other is-sent few) ∙ ap saidOf (sym arrives) ∙ e)));
+        back = ap (λ (l : List ℕ). take 44 (handedOn l)) arrives ∙ third .back sound turned other is-sent few;
+        others = ap (λ (l : List ℕ). drop 63 (handedOn l)) arrives ∙ third .others sound turned other is-sent;
+      }
+
+-- ---- a written frame, damaged
+module _ (letter : Letter) (s : ℕ) (blocks : List (List ℕ)) (out frame : List ℕ) (sized : Sized blocks) (written : Written letter s blocks out 0 frame)
+    (mask : List ℕ) (places : length mask ≡ 320) where
+  bits : List ℕ
+  bits = frameBits letter s blocks
+
+  bits-small : Below 2 bits
+  unfolding bits
+  bits-small = let good = written-is letter s blocks out frame written in below-frame letter s blocks sized (good .0) (good .1)
+
+  same-size : length bits ≡ length mask
+  unfolding bits
+  same-size = length-frame letter s blocks sized ∙ sym places
+
+  sum-size : length (bits ⊕ mask) ≡ 320
+  sum-size = length-⊕ bits mask same-size ∙ same-size ∙ places
+
+  damage : damaged frame mask ≡ bytesOf (bits ⊕ mask)
+  unfolding damaged bits
+  damage =
+      let good = written-is letter s blocks out frame written in
+      ap (λ (l : List ℕ). bytesOf (bitsOf l ⊕ mask)) (good .2)
+      ∙ ap (λ (l : List ℕ). bytesOf (l ⊕ mask)) (frame-bits letter s blocks sized (good .0) (good .1))
+
+  damaged-bits : bitsOf (damaged frame mask) ≡ bits ⊕ mask
+  damaged-bits = ap bitsOf damage ∙ bits-back (bits ⊕ mask) 40 (below-⊕ bits mask) sum-size
+
+  damaged-size : length (damaged frame mask) ≡ 40
+  damaged-size = ap length damage ∙ length-bytesOf (bits ⊕ mask) ∙ ap (λ (n : ℕ). n / 8) sum-size
+
+  gathered : (b : ℕ) → b < 4 → deinterleave (bits ⊕ mask) b ≡ block blocks b ⊕ deinterleave mask b
+  unfolding bits
+  gathered b h = gathered-⊕ bits mask b same-size ∙ ap (λ (l : List ℕ). l ⊕ deinterleave mask b) (blocks-gathered letter s blocks sized b h)
+
+  pub damaged-block : (b : ℕ) → b < 4 → blockOf (damaged frame mask) b ≡ block blocks b ⊕ deinterleave mask b
+  damaged-block b h = block-there _ b h ∙ ap (λ (l : List ℕ). deinterleave l b) damaged-bits ∙ gathered b h
+
+  -- a bit that is not turned
+  untouched : (k : ℕ) → getD mask k 0 % 2 ≡ 0 → getD (bits ⊕ mask) k 0 ≡ getD bits k 0
+  untouched k h = let bit = bit-below bits k bits-small in getD-⊕ bits mask k same-size ∙ omega arith
+
+  module _ (burst : Burst mask) where
+    pub damaged-reads : readFrame letter (damaged frame mask) ≡ found (serviceIn letter s) (damagedBlocks blocks mask)
+    unfolding bits
+    damaged-reads =
+        reads letter (damaged frame mask) (bits ⊕ mask) damaged-size damaged-bits
+        (λ k h. untouched k (burst .before k (omega arith)) ∙ frame-sync letter s blocks sized k h)
+        ∙ rw (
+          untouched 11 (burst .before 11 (omega arith)),
+          frame-service letter s blocks sized,
+          sent-twice letter s,
+          gathered 0 (omega arith),
+          gathered 1 (omega arith),
+          gathered 2 (omega arith),
+          gathered 3 (omega arith),
+        )
+
+    pub burst-survives : (b : ℕ) → b < 4 → CodeWord (take 63 (block blocks b)) → Survives (block blocks b) (blockOf (damaged frame mask) b)
+    burst-survives b h word =
+        let good = written-is letter s blocks out frame written in
+        rw (damaged-block b h)
+        (survives (block blocks b) (deinterleave mask b) (sized b h) (length-gathered mask b) (good-blocks b blocks (good .1)) (burst-two mask burst b) word)

@@ -1,0 +1,4 @@
+pub mod Writing
+pub mod Back
+pub mod Burst
+pub mod Unique
