@@ -1,8 +1,9 @@
 // The calls on blocks.
+use crate::pages::Page;
 use crate::words;
 use block::BlockReading;
 
-fn write(line: &[u8], at: usize, out: &mut [u8], to: usize) -> usize {
+pub(crate) fn write(line: &[u8], at: usize, mut page: Page) -> Page {
     let first = words::read_signed(line, at);
     let second = words::read_signed(line, first.next);
     let third = words::read_signed(line, second.next);
@@ -10,17 +11,16 @@ fn write(line: &[u8], at: usize, out: &mut [u8], to: usize) -> usize {
     let left = words::read_small(line, fourth.next);
     let right = words::read_small(line, left.next);
     if !words::ended(line, right.next) {
-        return 0;
+        return page;
     }
     let codes = [first.value, second.value, third.value, fourth.value];
     let written = block_writer::write(codes, [left.value, right.value]);
     let bits = written.bits;
-    let end = text::put_number(out, to, written.number as u64);
+    page = page.number(written.number);
     if written.number != 0 {
-        return end;
+        return page;
     }
-    let end = text::put(out, end, b' ');
-    text_rows::put_row(out, end, &bits)
+    page.row(&bits)
 }
 
 // The number that stands for a reading behind number 0: clean, mended with 1 or 2, bad; 4 where the bits were out of range.
@@ -33,59 +33,41 @@ fn told(reading: BlockReading) -> u8 {
     }
 }
 
-fn read(line: &[u8], at: usize, out: &mut [u8], to: usize) -> usize {
-    let mut bits = [0u8; 77];
-    let next = words::read_row(line, at, &mut bits);
-    if !words::ended(line, next) {
-        return 0;
+pub(crate) fn read(line: &[u8], at: usize, mut page: Page) -> Page {
+    let block = words::read_block(line, at);
+    if !words::ended(line, block.next) {
+        return page;
     }
+    let bits = block.bits;
     let answer = block::read(bits);
     let reading = answer.reading;
     let stood = answer.bits;
     let number = told(reading);
     if number == 4 {
-        return text::put(out, to, b'2');
+        return page.put(b'2');
     }
-    let end = text::put(out, to, b'0');
-    let end = text::put_next(out, end, number as u64);
-    let end = text::put(out, end, b' ');
-    text_rows::put_row(out, end, &stood)
+    page = page.put(b'0');
+    page = page.next(number as u64);
+    page.row(&stood)
 }
 
-fn codes(line: &[u8], at: usize, out: &mut [u8], to: usize) -> usize {
-    let mut bits = [0u8; 77];
-    let next = words::read_row(line, at, &mut bits);
-    if !words::ended(line, next) {
-        return 0;
+pub(crate) fn codes(line: &[u8], at: usize, mut page: Page) -> Page {
+    let block = words::read_block(line, at);
+    if !words::ended(line, block.next) {
+        return page;
     }
+    let bits = block.bits;
     let answer = block_codes::codes_of(bits);
     let codes = answer.codes;
     let extra = answer.extra;
-    let end = text::put_number(out, to, answer.number as u64);
+    page = page.number(answer.number);
     if answer.number != 0 {
-        return end;
+        return page;
     }
-    let end = text::put_next_signed(out, end, codes[0]);
-    let end = text::put_next_signed(out, end, codes[1]);
-    let end = text::put_next_signed(out, end, codes[2]);
-    let end = text::put_next_signed(out, end, codes[3]);
-    let end = text::put_next(out, end, words::wide(extra[0]));
-    text::put_next(out, end, words::wide(extra[1]))
-}
-
-// The end of the answer, or 0 where the line is none of these calls.
-pub(crate) fn called(line: &[u8], out: &mut [u8], to: usize) -> usize {
-    let at = words::after_name(line, b"bwrite");
-    if at != 0 {
-        return write(line, at, out, to);
-    }
-    let at = words::after_name(line, b"bread");
-    if at != 0 {
-        return read(line, at, out, to);
-    }
-    let at = words::after_name(line, b"bcodes");
-    if at != 0 {
-        return codes(line, at, out, to);
-    }
-    0
+    page = page.signed(codes[0]);
+    page = page.signed(codes[1]);
+    page = page.signed(codes[2]);
+    page = page.signed(codes[3]);
+    page = page.next(words::wide(extra[0]));
+    page.next(words::wide(extra[1]))
 }

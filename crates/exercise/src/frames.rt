@@ -1,4 +1,5 @@
 // The calls on main frames.
+use crate::pages::Page;
 use crate::words;
 use frame::FrameRead;
 use frame::Letter;
@@ -27,53 +28,51 @@ fn letter_of(is_b: bool) -> Letter {
     if is_b { Letter::B } else { Letter::A }
 }
 
-fn put_block(out: &mut [u8], to: usize, bits: &[u8; 77]) -> usize {
-    let behind = text::put(out, to, b' ');
-    text_rows::put_row(out, behind, bits)
+fn put_block(page: Page, bits: &[u8; 77]) -> Page {
+    page.row(bits)
 }
 
-fn put_read(read: FrameRead, out: &mut [u8], to: usize) -> usize {
+fn put_read(read: FrameRead, mut page: Page) -> Page {
     let first = read.first;
     let second = read.second;
     let third = read.third;
     let fourth = read.fourth;
-    let end = text::put_number(out, to, read.number as u64);
+    page = page.number(read.number);
     if read.number != 0 {
-        return end;
+        return page;
     }
-    let end = text::put_next(out, end, read.service as u64);
-    let end = put_block(out, end, &first);
-    let end = put_block(out, end, &second);
-    let end = put_block(out, end, &third);
-    put_block(out, end, &fourth)
+    page = page.next(read.service as u64);
+    page = put_block(page, &first);
+    page = put_block(page, &second);
+    page = put_block(page, &third);
+    put_block(page, &fourth)
 }
 
 // With room for just the bytes that the word has.
-fn read_into(letter: Lettered, line: &[u8], bytes: &mut [u8], out: &mut [u8], to: usize) -> usize {
+fn read_into(letter: Lettered, line: &[u8], bytes: &mut [u8], page: Page) -> Page {
     let next = words::read_bytes(line, letter.next, bytes);
     if !words::ended(line, next) {
-        return 0;
+        return page;
     }
-    put_read(frame::read(letter_of(letter.is_b), bytes), out, to)
+    put_read(frame::read(letter_of(letter.is_b), bytes), page)
 }
 
-fn read(line: &[u8], at: usize, out: &mut [u8], to: usize) -> usize {
+pub(crate) fn read(line: &[u8], at: usize, page: Page) -> Page {
     let letter = read_letter(line, at);
     let n = words::bytes_in(line, letter.next);
     if 64 < n {
-        return 0;
+        return page;
     }
     let mut bytes = [0u8; 64];
-    read_into(letter, line, &mut bytes[0..n], out, to)
+    read_into(letter, line, &mut bytes[0..n], page)
 }
 
-fn put_written(number: u8, lent: &[u8], out: &mut [u8], to: usize) -> usize {
-    let end = text::put_number(out, to, number as u64);
-    let end = text::put(out, end, b' ');
+fn put_written(number: u8, lent: &[u8], mut page: Page) -> Page {
+    page = page.number(number);
     if lent.len() == 0 {
-        return text::put(out, end, b'-');
+        return page.all(b" -");
     }
-    text_rows::put_hex(out, end, lent)
+    page.hex(lent)
 }
 
 // The four blocks, and the place behind them.
@@ -86,20 +85,20 @@ struct Blocks {
 }
 
 fn read_blocks(line: &[u8], at: usize) -> Blocks {
-    let mut first = [0u8; 77];
-    let mut second = [0u8; 77];
-    let mut third = [0u8; 77];
-    let mut fourth = [0u8; 77];
-    let next = words::read_row(line, at, &mut first);
-    let next = words::read_row(line, next, &mut second);
-    let next = words::read_row(line, next, &mut third);
-    let next = words::read_row(line, next, &mut fourth);
+    let one = words::read_block(line, at);
+    let two = words::read_block(line, one.next);
+    let three = words::read_block(line, two.next);
+    let four = words::read_block(line, three.next);
+    let first = one.bits;
+    let second = two.bits;
+    let third = three.bits;
+    let fourth = four.bits;
     Blocks {
         first,
         second,
         third,
         fourth,
-        next,
+        next: four.next,
     }
 }
 
@@ -111,41 +110,21 @@ fn write_into(is_b: bool, service: u8, blocks: Blocks, lent: &mut [u8]) -> u8 {
     frame_writer::write(letter_of(is_b), service, first, second, third, fourth, lent)
 }
 
-fn put_lent(
-    is_b: bool,
-    service: u8,
-    blocks: Blocks,
-    lent: &mut [u8],
-    out: &mut [u8],
-    to: usize,
-) -> usize {
+fn put_lent(is_b: bool, service: u8, blocks: Blocks, lent: &mut [u8], page: Page) -> Page {
     let number = write_into(is_b, service, blocks, lent);
-    put_written(number, lent, out, to)
+    put_written(number, lent, page)
 }
 
-fn write(line: &[u8], at: usize, out: &mut [u8], to: usize) -> usize {
+pub(crate) fn write(line: &[u8], at: usize, page: Page) -> Page {
     let letter = read_letter(line, at);
     let service = words::read_small(line, letter.next);
     let blocks = read_blocks(line, service.next);
     let length = words::read_number(line, blocks.next, 64);
     let fill = words::read_small(line, length.next);
     if !words::ended(line, fill.next) {
-        return 0;
+        return page;
     }
     let n = length.value as usize;
     let mut lent = [fill.value; 64];
-    put_lent(letter.is_b, service.value, blocks, &mut lent[0..n], out, to)
-}
-
-// The end of the answer, or 0 where the line is none of these calls.
-pub(crate) fn called(line: &[u8], out: &mut [u8], to: usize) -> usize {
-    let at = words::after_name(line, b"fread");
-    if at != 0 {
-        return read(line, at, out, to);
-    }
-    let at = words::after_name(line, b"fwrite");
-    if at != 0 {
-        return write(line, at, out, to);
-    }
-    0
+    put_lent(letter.is_b, service.value, blocks, &mut lent[0..n], page)
 }

@@ -3,6 +3,7 @@
 mod blocks; // blocks.rt: bwrite, bread, bcodes
 mod frames; // frames.rt: fwrite, fread
 mod lines; // lines.rt: a line answered by what it calls
+mod pages; // pages.rt: a line and its answer, as text
 mod programmes; // programmes.rt: pread, pwrite, name
 mod reels; // reels.rt: header, run, part
 mod samples; // samples.rt: code, sample, codes, samples, factor
@@ -47,9 +48,9 @@ fn finish(line: &[u8], held: Held) {
         io::write_all(1, b" = ?\n");
         return;
     }
-    let mut out = [0u8; 2048];
-    let end = lines::answer(&line[0..count], &mut out);
-    write_first(&out, end);
+    let page = lines::answer(&line[0..count]);
+    let bytes = page.bytes;
+    write_first(&bytes, page.count);
 }
 
 fn write_first(out: &[u8], end: usize) {

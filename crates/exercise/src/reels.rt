@@ -1,55 +1,56 @@
 // The calls on headers and runs.
+use crate::pages::Page;
 use crate::words;
 use reel::HeaderRead;
 use reel::RunCount;
 
-fn put_header(bytes: &[u8], out: &mut [u8], to: usize) -> usize {
+fn put_header(bytes: &[u8], mut page: Page) -> Page {
     match reel::read_header(bytes) {
         HeaderRead::Reel { count, offset } => {
-            let end = text::put(out, to, b'0');
-            let end = text::put_next(out, end, count as u64);
-            text::put_next(out, end, offset as u64)
+            page = page.put(b'0');
+            page = page.next(count as u64);
+            page.next(offset as u64)
         }
-        HeaderRead::NoHeader => text::put(out, to, b'8'),
+        HeaderRead::NoHeader => page.put(b'8'),
     }
 }
 
 // With room for just the bytes that the word has.
-fn header_into(line: &[u8], at: usize, bytes: &mut [u8], out: &mut [u8], to: usize) -> usize {
+fn header_into(line: &[u8], at: usize, bytes: &mut [u8], page: Page) -> Page {
     let next = words::read_bytes(line, at, bytes);
     if !words::ended(line, next) {
-        return 0;
+        return page;
     }
-    put_header(bytes, out, to)
+    put_header(bytes, page)
 }
 
-fn header(line: &[u8], at: usize, out: &mut [u8], to: usize) -> usize {
+pub(crate) fn header(line: &[u8], at: usize, page: Page) -> Page {
     let n = words::bytes_in(line, at);
     if 64 < n {
-        return 0;
+        return page;
     }
     let mut bytes = [0u8; 64];
-    header_into(line, at, &mut bytes[0..n], out, to)
+    header_into(line, at, &mut bytes[0..n], page)
 }
 
-fn put_count(run: &[u8], out: &mut [u8], to: usize) -> usize {
+fn put_count(run: &[u8], mut page: Page) -> Page {
     match reel::run_count(run) {
         RunCount::Superframes(count) => {
-            let end = text::put(out, to, b'0');
-            text::put_next(out, end, count as u64)
+            page = page.put(b'0');
+            page.next(count as u64)
         }
-        RunCount::NoRun => text::put(out, to, b'1'),
+        RunCount::NoRun => page.put(b'1'),
     }
 }
 
-fn run(line: &[u8], at: usize, out: &mut [u8], to: usize) -> usize {
+pub(crate) fn run(line: &[u8], at: usize, page: Page) -> Page {
     let length = words::read_number(line, at, 20480);
     if !words::ended(line, length.next) {
-        return 0;
+        return page;
     }
     let n = length.value as usize;
     let run = [0u8; 20480];
-    put_count(&run[0..n], out, to)
+    put_count(&run[0..n], page)
 }
 
 // Byte i is i / 80, so that a part tells where it starts.
@@ -61,45 +62,28 @@ fn mark(run: &mut [u8]) {
     }
 }
 
-fn put_part(run: &[u8], k: usize, out: &mut [u8], to: usize) -> usize {
-    let end = text::put_number(out, to, reel::superframe_number_of(run, k) as u64);
+fn put_part(run: &[u8], k: usize, mut page: Page) -> Page {
+    page = page.number(reel::superframe_number_of(run, k));
     let part = reel::superframe_of(run, k);
-    let end = text::put_next(out, end, part.len() as u64);
+    page = page.next(part.len() as u64);
     if part.len() == 0 {
-        return end;
+        return page;
     }
-    text::put_next(out, end, words::wide(part[0]) * 80)
+    page.next(words::wide(part[0]) * 80)
 }
 
-fn put_marked(run: &mut [u8], k: usize, out: &mut [u8], to: usize) -> usize {
+fn put_marked(run: &mut [u8], k: usize, page: Page) -> Page {
     mark(run);
-    put_part(run, k, out, to)
+    put_part(run, k, page)
 }
 
-fn part(line: &[u8], at: usize, out: &mut [u8], to: usize) -> usize {
+pub(crate) fn part(line: &[u8], at: usize, page: Page) -> Page {
     let length = words::read_number(line, at, 20480);
     let k = words::read_number(line, length.next, words::MOST);
     if !words::ended(line, k.next) {
-        return 0;
+        return page;
     }
     let n = length.value as usize;
     let mut run = [0u8; 20480];
-    put_marked(&mut run[0..n], k.value as usize, out, to)
-}
-
-// The end of the answer, or 0 where the line is none of these calls.
-pub(crate) fn called(line: &[u8], out: &mut [u8], to: usize) -> usize {
-    let at = words::after_name(line, b"header");
-    if at != 0 {
-        return header(line, at, out, to);
-    }
-    let at = words::after_name(line, b"run");
-    if at != 0 {
-        return run(line, at, out, to);
-    }
-    let at = words::after_name(line, b"part");
-    if at != 0 {
-        return part(line, at, out, to);
-    }
-    0
+    put_marked(&mut run[0..n], k.value as usize, page)
 }

@@ -1,12 +1,13 @@
 // The calls on samples, codes and factors.
 ghost use Prim.Native.Nat.{_<_};
+use crate::pages::Page;
 use crate::signs;
 use crate::words;
 use sample::Chosen;
 use sample::Coded;
 use sample::Sampled;
 
-enum Way {
+pub(crate) enum Way {
     ToCode,
     ToSample,
 }
@@ -42,18 +43,18 @@ fn asked(way: Way, n: i16, factor: u8) -> Answer {
     }
 }
 
-fn single(way: Way, line: &[u8], at: usize, out: &mut [u8], to: usize) -> usize {
+pub(crate) fn single(way: Way, line: &[u8], at: usize, mut page: Page) -> Page {
     let n = words::read_signed(line, at);
     let factor = words::read_small(line, n.next);
     if !words::ended(line, factor.next) {
-        return 0;
+        return page;
     }
     let answer = asked(way, n.value, factor.value);
     if answer.accepted {
-        let end = text::put(out, to, b'0');
-        return text::put_next_signed(out, end, answer.value);
+        page = page.put(b'0');
+        return page.signed(answer.value);
     }
-    text::put(out, to, b'2')
+    page.put(b'2')
 }
 
 // What an answer adds to a sum: its number + 32768, or 65538 for number 2.
@@ -79,21 +80,21 @@ fn sum_of(way: Way, factor: u8, start: u64, end: u64) -> u64
     sum
 }
 
-fn swept(way: Way, line: &[u8], at: usize, out: &mut [u8], to: usize) -> usize {
+pub(crate) fn swept(way: Way, line: &[u8], at: usize, mut page: Page) -> Page {
     let factor = words::read_small(line, at);
     let first = words::read_signed(line, factor.next);
     let count = words::read_number(line, first.next, 4096);
     let start = signs::shifted(first.value);
     let end = start + count.value;
     if 65536 < end {
-        return 0;
+        return page;
     }
     if !words::ended(line, count.next) {
-        return 0;
+        return page;
     }
     let sum = sum_of(way, factor.value, start, end);
-    let end = text::put(out, to, b'0');
-    text::put_next(out, end, sum)
+    page = page.put(b'0');
+    page.next(sum)
 }
 
 // How many samples were read, 0 where one was none.
@@ -116,52 +117,27 @@ fn read_samples(line: &[u8], at: usize, samples: &mut [i16]) -> usize {
     if words::ended(line, next) { count } else { 0 }
 }
 
-fn chosen(samples: &[i16], out: &mut [u8], to: usize) -> usize {
+fn chosen(samples: &[i16], mut page: Page) -> Page {
     match sample::factor_of(samples) {
         Chosen::Factor(factor) => {
-            let end = text::put(out, to, b'0');
-            text::put_next(out, end, factor as u64)
+            page = page.put(b'0');
+            page.next(factor as u64)
         }
-        Chosen::Refused => text::put(out, to, b'1'),
+        Chosen::Refused => page.put(b'1'),
     }
 }
 
-fn factor(line: &[u8], at: usize, out: &mut [u8], to: usize) -> usize {
+pub(crate) fn factor(line: &[u8], at: usize, page: Page) -> Page {
     let mut samples = [0i16; 80];
     if words::ended(line, words::read_mark(line, at, b'-')) {
-        return chosen(&samples[0..0], out, to);
+        return chosen(&samples[0..0], page);
     }
     let count = read_samples(line, at, &mut samples);
     if count == 0 {
-        return 0;
+        return page;
     }
     if 80 < count {
-        return 0;
+        return page;
     }
-    chosen(&samples[0..count], out, to)
-}
-
-// The end of the answer, or 0 where the line is none of these calls.
-pub(crate) fn called(line: &[u8], out: &mut [u8], to: usize) -> usize {
-    let at = words::after_name(line, b"code");
-    if at != 0 {
-        return single(Way::ToCode, line, at, out, to);
-    }
-    let at = words::after_name(line, b"sample");
-    if at != 0 {
-        return single(Way::ToSample, line, at, out, to);
-    }
-    let at = words::after_name(line, b"codes");
-    if at != 0 {
-        return swept(Way::ToCode, line, at, out, to);
-    }
-    let at = words::after_name(line, b"samples");
-    if at != 0 {
-        return swept(Way::ToSample, line, at, out, to);
-    }
-    let at = words::after_name(line, b"factor");
-    if at != 0 {
-        return factor(line, at, out, to);
-    }
-    0
+    chosen(&samples[0..count], page)
 }

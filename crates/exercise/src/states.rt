@@ -1,5 +1,7 @@
 // The calls on the reader's state.
+use crate::pages::Page;
 use crate::words;
+use crate::words::Small;
 use superframe::State;
 
 // A state, and the place behind its six words.
@@ -8,128 +10,126 @@ struct Read {
     next: usize,
 }
 
+// A byte for each channel, and the place behind them.
+struct Channels {
+    bytes: [u8; 32],
+    next: usize,
+}
+
+fn read_channels(line: &[u8], at: usize) -> Channels {
+    let mut bytes = [0u8; 32];
+    let next = words::read_hex(line, at, &mut bytes);
+    Channels { bytes, next }
+}
+
+fn read_byte(line: &[u8], at: usize) -> Small {
+    let mut byte = [0u8; 1];
+    let next = words::read_hex(line, at, &mut byte);
+    Small {
+        value: byte[0],
+        next,
+    }
+}
+
 fn read_state(line: &[u8], at: usize) -> Read {
-    let mut next = [0u8; 32];
-    let mut after = [0u8; 32];
-    let mut position = [0u8; 1];
-    let mut stage = [0u8; 1];
-    let mut group = [0u8; 32];
+    let of_next = read_channels(line, at);
+    let of_after = read_channels(line, of_next.next);
+    let position = read_byte(line, of_after.next);
+    let stage = read_byte(line, position.next);
+    let of_group = read_channels(line, stage.next);
     let mut labels = [0u8; 256];
-    let place = words::read_hex(line, at, &mut next);
-    let place = words::read_hex(line, place, &mut after);
-    let place = words::read_hex(line, place, &mut position);
-    let place = words::read_hex(line, place, &mut stage);
-    let place = words::read_hex(line, place, &mut group);
-    let place = words::read_hex(line, place, &mut labels);
+    let place = words::read_hex(line, of_group.next, &mut labels);
+    let next = of_next.bytes;
+    let after = of_after.bytes;
+    let group = of_group.bytes;
     let state = State {
         next,
         after,
-        position: position[0],
+        position: position.value,
         group,
-        stage: stage[0],
+        stage: stage.value,
         labels,
     };
     Read { state, next: place }
 }
 
-// A byte for each channel.
-fn put_channels(out: &mut [u8], to: usize, bytes: &[u8; 32]) -> usize {
-    let behind = text::put(out, to, b' ');
-    text_rows::put_hex(out, behind, bytes)
+fn put_channels(page: Page, bytes: &[u8; 32]) -> Page {
+    page.hex(bytes)
 }
 
-fn put_small(out: &mut [u8], to: usize, byte: u8) -> usize {
-    let behind = text::put(out, to, b' ');
+fn put_byte(page: Page, byte: u8) -> Page {
     let one = [byte];
-    text_rows::put_hex(out, behind, &one)
+    page.hex(&one)
 }
 
-fn put_labels(out: &mut [u8], to: usize, labels: &[u8; 256]) -> usize {
-    let behind = text::put(out, to, b' ');
-    text_rows::put_hex(out, behind, labels)
+fn put_labels(page: Page, labels: &[u8; 256]) -> Page {
+    page.hex(labels)
 }
 
-fn put_state(out: &mut [u8], to: usize, state: State) -> usize {
+fn put_state(mut page: Page, state: State) -> Page {
     let next = state.next;
     let after = state.after;
     let group = state.group;
     let labels = state.labels;
-    let end = put_channels(out, to, &next);
-    let end = put_channels(out, end, &after);
-    let end = put_small(out, end, state.position);
-    let end = put_small(out, end, state.stage);
-    let end = put_channels(out, end, &group);
-    put_labels(out, end, &labels)
+    page = put_channels(page, &next);
+    page = put_channels(page, &after);
+    page = put_byte(page, state.position);
+    page = put_byte(page, state.stage);
+    page = put_channels(page, &group);
+    put_labels(page, &labels)
 }
 
-fn fresh(line: &[u8], at: usize, out: &mut [u8], to: usize) -> usize {
+pub(crate) fn fresh(line: &[u8], at: usize, mut page: Page) -> Page {
     if !words::ended(line, at) {
-        return 0;
+        return page;
     }
-    let end = text::put(out, to, b'0');
-    put_state(out, end, State::fresh())
+    page = page.put(b'0');
+    put_state(page, State::fresh())
 }
 
-fn lose(line: &[u8], at: usize, out: &mut [u8], to: usize) -> usize {
+pub(crate) fn lose(line: &[u8], at: usize, mut page: Page) -> Page {
     let read = read_state(line, at);
     if !words::ended(line, read.next) {
-        return 0;
+        return page;
     }
     let state = read.state;
     let lost = state.lose();
     let next = lost.next;
-    let end = text::put_number(out, to, lost.number as u64);
-    put_state(out, end, next)
+    page = page.number(lost.number);
+    put_state(page, next)
 }
 
-fn put_given(out: &mut [u8], to: usize, complete: bool, labels: &[u8; 256]) -> usize {
+fn put_given(page: Page, complete: bool, labels: &[u8; 256]) -> Page {
     if complete {
-        return put_labels(out, to, labels);
+        return put_labels(page, labels);
     }
-    text::put_all(out, to, b" -")
+    page.all(b" -")
 }
 
-fn serve(state: State, six: [u8; 6], sync: [u8; 16], out: &mut [u8], to: usize) -> usize {
+fn serve(state: State, six: [u8; 6], sync: [u8; 16], mut page: Page) -> Page {
     let served = state.take_service(six, sync);
     let labels = served.labels;
     let next = served.next;
     if served.number == 2 {
-        let end = text::put(out, to, b'2');
-        return put_state(out, end, next);
+        page = page.put(b'2');
+        return put_state(page, next);
     }
-    let end = text::put(out, to, b'0');
-    let end = text::put_next(out, end, served.position as u64);
-    let end = text::put_next(out, end, served.number as u64);
-    let end = put_given(out, end, served.complete, &labels);
-    put_state(out, end, next)
+    page = page.put(b'0');
+    page = page.next(served.position as u64);
+    page = page.next(served.number as u64);
+    page = put_given(page, served.complete, &labels);
+    put_state(page, next)
 }
 
-fn service(line: &[u8], at: usize, out: &mut [u8], to: usize) -> usize {
+pub(crate) fn service(line: &[u8], at: usize, page: Page) -> Page {
     let read = read_state(line, at);
     let mut six = [0u8; 6];
     let mut sync = [0u8; 16];
     let next = words::read_hex(line, read.next, &mut six);
     let next = words::read_row(line, next, &mut sync);
     if !words::ended(line, next) {
-        return 0;
+        return page;
     }
     let state = read.state;
-    serve(state, six, sync, out, to)
-}
-
-// The end of the answer, or 0 where the line is none of these calls.
-pub(crate) fn called(line: &[u8], out: &mut [u8], to: usize) -> usize {
-    let at = words::after_name(line, b"fresh");
-    if at != 0 {
-        return fresh(line, at, out, to);
-    }
-    let at = words::after_name(line, b"lose");
-    if at != 0 {
-        return lose(line, at, out, to);
-    }
-    let at = words::after_name(line, b"service");
-    if at != 0 {
-        return service(line, at, out, to);
-    }
-    0
+    serve(state, six, sync, page)
 }

@@ -2,6 +2,7 @@
 // that a word before was not of its kind, so that a call reads all its words and asks once.
 ghost use mathlib.Core.Path.{_≡_};
 ghost use Prim.Native.Nat.{_<_, _≤_};
+ghost use lib.ListN.{length};
 use crate::signs;
 
 pub(crate) struct Number {
@@ -16,6 +17,18 @@ pub(crate) struct Small {
 
 pub(crate) struct Signed {
     pub(crate) value: i16,
+    pub(crate) next: usize,
+}
+
+// The bits of a block.
+pub(crate) struct Block {
+    pub(crate) bits: [u8; 77],
+    pub(crate) next: usize,
+}
+
+// A name by its place in a list of names, from 0 on.
+pub(crate) struct Name {
+    pub(crate) number: usize,
     pub(crate) next: usize,
 }
 
@@ -50,7 +63,7 @@ pub(crate) fn ended(line: &[u8], at: usize) -> bool {
 }
 
 // The place behind the name, where the line starts with it.
-pub(crate) fn after_name(line: &[u8], name: &[u8]) -> usize {
+fn after_name(line: &[u8], name: &[u8]) -> usize {
     let mut i: usize = 0;
     while i < name.len() {
         if byte_at(line, i) != name[i] {
@@ -59,6 +72,37 @@ pub(crate) fn after_name(line: &[u8], name: &[u8]) -> usize {
         i += 1;
     }
     behind(line, i)
+}
+
+// Where the word that starts here ends.
+fn end_of(line: &[u8], at: usize) -> usize
+    ensures { λ r. ⌜ (at ≤ r) × (at ≤ length (now (line .entry)) → r ≤ length (now (line .entry))) ⌝ }
+{
+    let mut end = at;
+    while end < line.len() {
+        if line[end] == b' ' {
+            break;
+        }
+        end += 1;
+    }
+    end
+}
+
+// The first of some names, each with a blank before it, that the line starts with.
+pub(crate) fn named(line: &[u8], names: &[u8]) -> Name {
+    let mut number: usize = 0;
+    let mut start: usize = 0;
+    while start < names.len() {
+        let first = start + 1;
+        let end = end_of(names, first);
+        let next = after_name(line, &names[first..end]);
+        if next != NONE {
+            return Name { number, next };
+        }
+        number += 1;
+        start = end;
+    }
+    Name { number, next: NONE }
 }
 
 // What a character is as a digit, in lower case; 16 where it is none.
@@ -193,6 +237,12 @@ pub(crate) fn read_row(line: &[u8], at: usize, entries: &mut [u8]) -> usize {
     behind(line, place)
 }
 
+pub(crate) fn read_block(line: &[u8], at: usize) -> Block {
+    let mut bits = [0u8; 77];
+    let next = read_row(line, at, &mut bits);
+    Block { bits, next }
+}
+
 // As many bytes as there is room for, two digits each.
 pub(crate) fn read_hex(line: &[u8], at: usize, bytes: &mut [u8]) -> usize {
     if at == NONE {
@@ -220,18 +270,6 @@ pub(crate) fn read_hex(line: &[u8], at: usize, bytes: &mut [u8]) -> usize {
         i += 1;
     }
     behind(line, place)
-}
-
-// Where the word that starts here ends.
-fn end_of(line: &[u8], at: usize) -> usize {
-    let mut end = at;
-    while end < line.len() {
-        if line[end] == b' ' {
-            break;
-        }
-        end += 1;
-    }
-    end
 }
 
 // The place behind a word that is one character.

@@ -17,7 +17,7 @@ use lib.ListN.{getD, getD-replicate}
 use Rattle.bits.specs.Table.{tabulate}
 use Rattle.bits.proofs.Table.{tab-ext}
 use Rattle.superframe.specs.State.{missing, stateInRange, lostState, lostWith}
-use Rattle.tape.specs.Sound.{soundAt, markWith, sampleAt, markAt, inRows, samplesOf, marksOf}
+use Rattle.sound.specs.Sound.{soundAt, markWith, sampleAt, markAt, inRows, samplesOf, marksOf}
 use Rattle.beside.specs.Beside.{programmesOf}
 use Rattle.superframe.specs.Take.{besideWith, refusedWith, takeAnswer}
 use Rattle.history.specs.Calls.{Call, Accepted, LostIn, HeardAt, Silent}

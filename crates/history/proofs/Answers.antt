@@ -17,10 +17,10 @@ use lib.IntN.{ℤ}
 use lib.ListN.{length, getD, getD-replicate}
 use Rattle.bits.proofs.Table.{getD-tab}
 use Rattle.bits.proofs.Tests.{either-way, both-true}
-use Rattle.service.specs.Sync.{sync1, sync2, agree, kindOf}
+use Rattle.service_sync.specs.Sync.{sync1, sync2, agree, kindOf}
 use Rattle.service.proofs.Machine.{served-is}
 use Rattle.tape.specs.Tape.{refusedCounts, countedWith, countsOf}
-use Rattle.tape.specs.Sound.{lengthsFit}
+use Rattle.sound.specs.Sound.{lengthsFit}
 use Rattle.beside.specs.Beside.{numberAt, programmesOf, sixAndSync}
 use Rattle.superframe.specs.State.{serviceOf, stateInRange}
 use Rattle.superframe.specs.Take.{takeNumber, servedIn, besideWith, noProgrammes, refusedWith, takeAnswer}

@@ -13,8 +13,8 @@ use Prim.Native.Nat.{ℕ, _<_, _≤_}
 use native.Mathlib.Omega.{arith}
 use lib.ListN.{length}
 use Rattle.bits.specs.Digits.{Below}
-use Rattle.service.specs.Places.{zeros}
-use Rattle.service.specs.Sync.{kindOf, dropsWith}
+use Rattle.service_group.specs.Places.{zeros}
+use Rattle.service_sync.specs.Sync.{kindOf, dropsWith}
 use Rattle.service.specs.Service.{searchingService}
 use Rattle.service.specs.Run.{Step, stepped, after}
 use Rattle.service.specs.Broadcast.{stepOf, broadcast, Separated, labelsOf}

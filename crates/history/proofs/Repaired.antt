@@ -31,10 +31,10 @@ use Rattle.block_codes.specs.Codes.{codeAt, codesAt, codesOf}
 use Rattle.block_codes.specs.declared.BlockCodes.{BlockCodes}
 use Rattle.block_writer.proofs.Back.{written-clean, written-codes}
 use Rattle.tape.specs.Tape.{blockIn, markOf, blockMark}
-use Rattle.tape.specs.Sound.{soundAt, markWith, codeIn, sampleAt, markAt}
+use Rattle.sound.specs.Sound.{soundAt, markWith, codeIn, sampleAt, markAt}
 use Rattle.history.specs.Calls.{SentIn}
 use Rattle.tape.proofs.Tape.{reading-there}
-use Rattle.tape.proofs.Samples.{code-there}
+use Rattle.sound.proofs.Samples.{code-there}
 
 -- two blocks with the same first 44 bits and the same last 14 have the same codes
 module _ (x y : List ℕ) (size : length x ≡ 77) (size' : length y ≡ 77) (front : take 44 x ≡ take 44 y) (back : drop 63 x ≡ drop 63 y) where

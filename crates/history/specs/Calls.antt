@@ -17,7 +17,7 @@ use Rattle.sample.specs.Sample.{isCode}
 use Rattle.block.specs.Layout.{sound, rest}
 use Rattle.block.specs.Demand.{received}
 use Rattle.tape.specs.Tape.{blockIn}
-use Rattle.tape.specs.Sound.{samplesOf, marksOf}
+use Rattle.sound.specs.Sound.{samplesOf, marksOf}
 use Rattle.superframe.specs.Take.{Took}
 use Rattle.superframe.specs.declared.state.State.{State}
 use Rattle.superframe.specs.declared.taking.Taken.{Taken}

@@ -6,27 +6,26 @@
 --     Alike s s'        two states that hold the same in all places that carry something
 --     alike-served      they are answered alike: what stands in the other places is not looked at
 -- Assumes nothing.
-use mathlib.Core.Path.{_≡_, refl, ap, _∙_}
-use mathlib.Core.Logic.{⊎-elim}
+use mathlib.Core.Path.{_≡_, refl}
 use mathlib.Core.Bool.{Bool, true, false, cond}
 use mathlib.Core.List.{List}
 use Prim.Native.Nat.{ℕ, _+_, _/_, _%_, _<_, _≤_}
-use native.Mathlib.Nat.{eq-or-lt-of-le}
 use native.Mathlib.Omega.{arith}
-use lib.Dec.{eqb, ltb}
+use lib.Dec.{ltb}
 use lib.ListN.{getD}
-use borrow.Author.Tests.{eqb-true, ltb-true}
+use borrow.Author.Tests.{ltb-true}
 use Rattle.bits.specs.Digits.{Below}
-use Rattle.bits.proofs.Table.{getD-tab, tab-ext}
-use Rattle.service.specs.Places.{zeros}
-use Rattle.service.specs.Six.{channelByte, groupAfter, charactersOf, labelByte, labelsAfter, stageAfter, separates, takeSix}
-use Rattle.service.specs.Sync.{kindOf, isOpen, nextPosition, dropsWith, groupWith, labelsWith, takeSync}
+use Rattle.service_group.specs.Places.{zeros}
+use Rattle.service_group.specs.Six.{groupAfter, labelsAfter, stageAfter}
+use Rattle.service_sync.specs.Sync.{kindOf, isOpen, nextPosition, dropsWith}
+use Rattle.service.specs.Taking.{takeSix, groupWith, labelsWith, takeSync}
 use Rattle.service.specs.Service.{searchingService, served}
 use Rattle.service.specs.declared.Service.{Service}
-use Rattle.service.specs.declared.sync.Kind.{Kind}
-use Rattle.service.specs.declared.sync.Kind.the-variants.{First, Second, Neither}
+use Rattle.service_sync.specs.declared.Kind.{Kind}
+use Rattle.service_sync.specs.declared.Kind.the-variants.{First, Second, Neither}
 use Rattle.bits.proofs.Tests.{picked}
-use Rattle.service.proofs.Orders.{at-comes, behind-none, zeros-getD, was-alike}
+use Rattle.service_group.proofs.Orders.{zeros-getD}
+use Rattle.service_group.proofs.Groups.{channel-none, filled-clean, group-alike, labels-alike}
 use Rattle.service.proofs.Machine.{InRange, served-is}
 
 pub record Clean (s : Service) : Type 0 where
@@ -35,43 +34,22 @@ pub record Clean (s : Service) : Type 0 where
 
 pub group-clean : (k : Kind) (p : ℕ) (g six : List ℕ) (b : Bool) → isOpen p ≡ b → (i : ℕ) → i < 32 → nextPosition k p ≤ i / 4 + 1
     → getD (groupWith (nextPosition k p) (groupAfter p g six)) i 0 ≡ 0
-unfolding groupAfter channelByte
 group-clean First p g six b e i l u = zeros-getD 32 i l
 group-clean Second p g six true e i l u =
     let past : p + 1 ≤ i / 4 + 1 = rw e at u in
     rw e
     (picked (λ (x : List ℕ). getD x i 0 ≡ 0) (ltb 1 (p + 1)) (groupAfter p g six) (zeros 32)
-    (getD-tab 32 (channelByte p g six) i 0 l ∙ behind-none p (i / 4 + 1) _ _ (omega arith))
+    (channel-none p g six i l (omega arith))
     (zeros-getD 32 i l))
 group-clean Second p g six false e i l u = rw e (zeros-getD 32 i l)
 group-clean Neither p g six b e i l u = zeros-getD 32 i l
-
--- a group that is complete leaves the stage past every place that it does not fill
-past-stage : (t n : ℕ) (z s l : Bool) → eqb t 0 ≡ z → ltb t 8 ≡ l → 0 < cond z (cond s 1 0) (cond l (t + 1) 0)
-    → cond z (cond s 1 0) (cond l (t + 1) 0) ≤ n + 1 → t < n + 1
-past-stage t n true s l e k m u = omega (arith, eqb-true t 0 e)
-past-stage t n false s true e k m u = omega arith
-past-stage t n false s false e k m u = let no : ⊥ = omega arith in absurd no
-
-filled-clean : (p t : ℕ) (l g : List ℕ) (b : Bool) → eqb p 8 ≡ b → (i : ℕ) → i < 256 → 0 < stageAfter p t g → stageAfter p t g ≤ i % 8 + 1
-    → getD (labelsAfter p t l g) i 0 ≡ 0
-unfolding labelsAfter labelByte stageAfter
-filled-clean p t l g true e i r m u =
-    getD-tab 256 (labelByte t l (charactersOf p g)) i 0 r
-    ∙ behind-none t (i % 8 + 1) _ _ (past-stage t (i % 8) (eqb t 0) (separates g) (ltb t 8) refl refl (rw e at m) (rw e at u))
-filled-clean p t l g false e i r m u =
-    getD-tab 256 (labelByte t l (charactersOf p g)) i 0 r
-    ∙ ⊎-elim
-    (λ (q : t ≡ i % 8 + 1). at-comes t (i % 8 + 1) _ _ (omega arith) ∙ rw e (zeros-getD 32 (i / 8) (omega arith)))
-    (λ (q : t < i % 8 + 1). behind-none t (i % 8 + 1) _ _ q)
-    (eq-or-lt-of-le (rw e at u))
 
 pub labels-clean : (d : Bool) (p t : ℕ) (l g : List ℕ) (i : ℕ) → i < 256 → cond d 0 (stageAfter p t g) ≤ i % 8 + 1
     → getD (labelsWith (cond d 0 (stageAfter p t g)) (labelsAfter p t l g)) i 0 ≡ 0
 labels-clean true p t l g i r u = zeros-getD 256 i r
 labels-clean false p t l g i r u = by-test (ltb 0 (stageAfter p t g)) refl where
   by-test : (b : Bool) → ltb 0 (stageAfter p t g) ≡ b → getD (cond b (labelsAfter p t l g) (zeros 256)) i 0 ≡ 0
-  by-test true e = filled-clean p t l g (eqb p 8) refl i r (ltb-true 0 (stageAfter p t g) e) u
+  by-test true e = filled-clean p t l g i r (ltb-true 0 (stageAfter p t g) e) u
   by-test false e = zeros-getD 256 i r
 
 pub next-clean : (s : Service) (six sync : List ℕ) → InRange s → Below 2 sync → Clean (served s six sync .next)
@@ -96,23 +74,11 @@ pub record Alike (s s' : Service) : Type 0 where
   pub group : (i : ℕ) → i < 32 → i / 4 + 1 < s .position → getD (s .group) i 0 ≡ getD (s' .group) i 0
   pub labels : (i : ℕ) → i < 256 → i % 8 + 1 < s .stage → getD (s .labels) i 0 ≡ getD (s' .labels) i 0
 
-group-alike : (s s' : Service) (six : List ℕ) → Alike s s' → groupAfter (s .position) (s .group) six ≡ groupAfter (s' .position) (s' .group) six
-unfolding groupAfter channelByte
-group-alike s s' six a =
-    tab-ext 32 (channelByte (s .position) (s .group) six) (channelByte (s .position) (s' .group) six)
-    (λ i l. was-alike (s .position) (i / 4 + 1) _ _ _ (a .group i l))
-    ∙ ap (λ (p : ℕ). groupAfter p (s' .group) six) (a .position)
-
-labels-alike : (s s' : Service) (p : ℕ) (g : List ℕ) → Alike s s' → labelsAfter p (s .stage) (s .labels) g ≡ labelsAfter p (s' .stage) (s' .labels) g
-unfolding labelsAfter labelByte
-labels-alike s s' p g a =
-    tab-ext 256 (labelByte (s .stage) (s .labels) (charactersOf p g)) (labelByte (s .stage) (s' .labels) (charactersOf p g))
-    (λ i l. was-alike (s .stage) (i % 8 + 1) _ _ _ (a .labels i l))
-    ∙ ap (λ (t : ℕ). labelsAfter p t (s' .labels) g) (a .stage)
-
 six-alike : (s s' : Service) (six : List ℕ) → Alike s s' → takeSix s six ≡ takeSix s' six
 unfolding takeSix
-six-alike s s' six a = rw (group-alike s s' six a, labels-alike s s' (s .position) (groupAfter (s' .position) (s' .group) six) a, a .position, a .stage)
+six-alike s s' six a =
+    let g : List ℕ = groupAfter (s .position) (s' .group) six in
+    rw (group-alike (s .position) (s .group) (s' .group) six (a .group), labels-alike (s .position) (s .stage) (s .labels) (s' .labels) g (a .labels), a .position, a .stage)
 
 pub alike-served : (s s' : Service) (six sync : List ℕ) → InRange s → Below 2 sync → Alike s s' → served s six sync ≡ served s' six sync
 alike-served s s' six sync h b a =

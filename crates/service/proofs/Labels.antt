@@ -15,24 +15,24 @@ use Prim.Native.Nat.{ℕ, zero, suc, _+_, _*_, _/_, _%_, _<_, _≤_}
 use native.Mathlib.Nat.{eq-or-lt-of-le}
 use native.Mathlib.Omega.{arith}
 use lib.Dec.{eqb}
-use lib.ListN.{length, getD}
+use lib.ListN.{getD}
 use borrow.Author.Tests.{lt-ltb, eq-eqb, ne-eqb}
 use Rattle.bits.specs.Digits.{Below}
 use Rattle.bits.specs.Table.{tabulate}
-use Rattle.bits.proofs.Digits.{below-tab}
-use Rattle.bits.proofs.Table.{length-tab, getD-tab, tab-ext, tab-getD}
-use Rattle.service.specs.Places.{zeros}
-use Rattle.service.specs.Six.{channelByte, groupAfter, charactersOf, labelByte, labelsAfter, stageAfter, separates, takeSix}
-use Rattle.service.specs.Sync.{sync1, sync2, isOpen, labelsWith, takeSync}
+use Rattle.bits.proofs.Table.{length-tab, tab-ext, tab-getD}
+use Rattle.service_group.specs.Places.{zeros}
+use Rattle.service_group.specs.Six.{separates}
+use Rattle.service_sync.specs.Sync.{sync1, sync2, isOpen}
+use Rattle.service.specs.Taking.{takeSix, labelsWith, takeSync}
 use Rattle.service.specs.Service.{served}
 use Rattle.service.specs.Run.{Step, stepped, after}
 use Rattle.service.specs.Broadcast.{syncBehind, stepOf, broadcast, channelOf, Separated, labelsOf}
 use Rattle.service.specs.declared.Service.{Service}
-use Rattle.service.specs.declared.sync.Kind.the-variants.{First, Second}
-use Rattle.bits.proofs.Bits.{below-all}
-use Rattle.service.proofs.Orders.{before-kept, at-comes}
-use Rattle.service.proofs.Machine.{InRange, open-true, open-false, served-first, served-second, eighth-ends}
-use Rattle.service.proofs.Progress.{NoLabels, stage-waits, soon-none}
+use Rattle.service_sync.specs.declared.Kind.the-variants.{First, Second}
+use Rattle.service_group.proofs.Groups.{channel-kept, channel-comes, zeros-separate, label-kept, label-comes, length-labels, separator-starts, stage-grows, stage-waits}
+use Rattle.service_sync.proofs.Syncs.{open-true, open-false}
+use Rattle.service.proofs.Machine.{InRange, served-first, served-second, eighth-ends}
+use Rattle.service.proofs.Progress.{NoLabels, soon-none}
 
 pub after-snoc : (xs : List Step) (x : Step) (s : Service) → after s (xs ++ (x ∷ [])) ≡ stepped (after s xs) x .next
 unfolding after
@@ -50,27 +50,26 @@ module _ (sixes : ℕ → List ℕ) (k : ℕ) (t : Service) (a : Along sixes k t
   along-range h = record { position = omega (arith, a .position); stage = omega (arith, a .stage) }
 
   pub group-with : (i : ℕ) → i < 32 → i / 4 ≤ k % 8 → getD (takeSix t (sixes k) .group) i 0 ≡ channelOf sixes (k / 8) i
-  unfolding takeSix groupAfter channelByte
+  unfolding takeSix
   group-with i l h =
-      getD-tab 32 (channelByte (t .position) (t .group) (sixes k)) i 0 l
-      ∙ ⊎-elim
+      ⊎-elim
       (λ (e : i / 4 ≡ k % 8).
       let here : k ≡ 8 * (k / 8) + i / 4 = omega arith in
-      at-comes (t .position) (i / 4 + 1) _ _ (omega (arith, a .position)) ∙ ap (λ (n : ℕ). getD (sixes n) (i % 4) 0) here)
-      (λ (u : i / 4 < k % 8). before-kept (t .position) (i / 4 + 1) _ _ (omega (arith, a .position)) ∙ a .group i l u)
+      channel-comes (t .position) (t .group) (sixes k) i l (omega (arith, a .position)) ∙ ap (λ (n : ℕ). getD (sixes n) (i % 4) 0) here)
+      (λ (u : i / 4 < k % 8). channel-kept (t .position) (t .group) (sixes k) i l (omega (arith, a .position)) ∙ a .group i l u)
       (eq-or-lt-of-le h)
 
   pub labels-with : (i : ℕ) → i < 256 → (i % 8 + 1 < k / 8) ⊎ ((i % 8 + 1 ≡ k / 8) × (k % 8 ≡ 7))
       → getD (takeSix t (sixes k) .labels) i 0 ≡ channelOf sixes (i % 8 + 1) (i / 8)
-  unfolding takeSix labelsAfter labelByte
+  unfolding takeSix
   labels-with i l h =
-      getD-tab 256 (labelByte (t .stage) (t .labels) (charactersOf (t .position) (takeSix t (sixes k) .group))) i 0 l
-      ∙ ⊎-elim
-      (λ (u : i % 8 + 1 < k / 8). before-kept (t .stage) (i % 8 + 1) _ _ (omega (arith, a .stage)) ∙ a .labels i l u)
+      let g : List ℕ = takeSix t (sixes k) .group in
+      ⊎-elim
+      (λ (u : i % 8 + 1 < k / 8). label-kept (t .position) (t .stage) (t .labels) g i l (omega (arith, a .stage)) ∙ a .labels i l u)
       (λ (e : (i % 8 + 1 ≡ k / 8) × (k % 8 ≡ 7)).
       let complete : eqb (t .position) 8 ≡ true = eq-eqb (t .position) 8 (omega (arith, a .position)) in
-      at-comes (t .stage) (i % 8 + 1) _ _ (omega (arith, a .stage))
-      ∙ ap (λ (b : Bool). getD (cond b (takeSix t (sixes k) .group) (zeros 32)) (i / 8) 0) complete
+      label-comes (t .position) (t .stage) (t .labels) g i l (omega (arith, a .stage))
+      ∙ ap (λ (b : Bool). getD (cond b g (zeros 32)) (i / 8) 0) complete
       ∙ group-with (i / 8) (omega arith) (omega arith)
       ∙ ap (λ (n : ℕ). channelOf sixes n (i / 8)) (sym (e .0)))
       h
@@ -117,27 +116,25 @@ module _ (sixes : ℕ → List ℕ) (k : ℕ) (t : Service) (a : Along sixes k t
       rw (behind, served-first t (sixes k) (along-range sixes k t a (omega arith)))
 
   separated : Separated sixes → k ≡ 7 → separates (takeSix t (sixes k) .group) ≡ true
-  unfolding takeSix groupAfter
+  unfolding takeSix
   separated none e =
-      let f : ℕ → ℕ = channelByte (t .position) (t .group) (sixes k) in
-      below-all 1 (tabulate 32 f)
-      (below-tab 1 32 f
-      (λ i l.
       let first : k / 8 ≡ 0 = omega arith in
-      let here : f i ≡ channelOf sixes (k / 8) i = sym (getD-tab 32 f i 0 l) ∙ group-with sixes k t a i l (omega arith) in
-      let nothing : f i ≡ 0 = here ∙ ap (λ (n : ℕ). channelOf sixes n i) first ∙ none i l in
-      omega arith))
+      zeros-separate (t .position) (t .group) (sixes k)
+      (λ i l. group-with sixes k t a i l (omega arith) ∙ ap (λ (n : ℕ). channelOf sixes n i) first ∙ none i l)
 
   ended-stage : Separated sixes → k % 8 ≡ 7 → takeSix t (sixes k) .stage ≡ suc k / 8
-  unfolding takeSix stageAfter
+  unfolding takeSix
   ended-stage none m =
-      let complete : eqb (t .position) 8 ≡ true = eq-eqb (t .position) 8 (omega (arith, a .position)) in
+      let g : List ℕ = takeSix t (sixes k) .group in
+      let p : t .position ≡ 8 = omega (arith, a .position) in
       ⊎-elim
       (λ (e : k / 8 ≡ 0).
       let seven : k ≡ 7 = omega arith in
-      rw (complete, eq-eqb (t .stage) 0 (omega (arith, a .stage)), separated none seven) (omega arith))
+      let one : 1 ≡ suc k / 8 = omega arith in
+      separator-starts (t .position) (t .stage) g p (omega (arith, a .stage)) (separated none seven) ∙ one)
       (λ (l : 0 < k / 8).
-      rw (complete, ne-eqb (t .stage) 0 (λ e. omega (arith, a .stage)), lt-ltb (t .stage) 8 (omega (arith, a .stage))) (omega (arith, a .stage)))
+      let next : t .stage + 1 ≡ suc k / 8 = omega (arith, a .stage) in
+      stage-grows (t .position) (t .stage) g p (omega (arith, a .stage)) (omega (arith, a .stage)) ∙ next)
       (zero-or-more (k / 8))
 
   ending : Separated sixes → k % 8 ≡ 7 → Along sixes (suc k) (takeSync First (takeSix t (sixes k)))
@@ -156,14 +153,11 @@ module _ (sixes : ℕ → List ℕ) (k : ℕ) (t : Service) (a : Along sixes k t
   along-next none =
       ⊎-elim (λ (m : k % 8 ≡ 7). rw (ending-next m) (ending none m)) (λ (m : k % 8 < 7). rw (inside-next m) (inside m)) (eq-or-lt-of-le (omega arith))
 
-length-labels : (t : Service) (six : List ℕ) → length (takeSix t six .labels) ≡ 256
-unfolding takeSix labelsAfter
-length-labels t six = length-tab 256 (labelByte (t .stage) (t .labels) (charactersOf (t .position) (takeSix t six .group)))
-
 -- what the last six bytes complete
 spelt : (sixes : ℕ → List ℕ) (t : Service) → Along sixes 71 t → takeSix t (sixes 71) .labels ≡ labelsOf sixes
+unfolding takeSix
 spelt sixes t a =
-    tab-getD 256 (takeSix t (sixes 71) .labels) 0 (length-labels t (sixes 71))
+    tab-getD 256 (takeSix t (sixes 71) .labels) 0 (length-labels (t .position) (t .stage) (t .labels) (takeSix t (sixes 71) .group))
     ∙ tab-ext 256 (λ i. getD (takeSix t (sixes 71) .labels) i 0) (λ i. channelOf sixes (i % 8 + 1) (i / 8))
     (λ i l. labels-with sixes 71 t a i l (before-or-at (i % 8 + 1) (71 / 8) (omega arith) refl))
 

@@ -1,9 +1,6 @@
 -- The machine as document 01, "Service groups", tells it: one law for each of its sentences, over the whole step.
 --     InRange, in-range-true, in-range-fact      the range as a fact, and as the test has it
---     first-kind, second-kind, neither-kind      the two syncs, and any other
 --     opened                   a group at its first position, with labels searched for
---     leftOf, rightOf          the channels of a programme
---     bytes-placed             bytes 1 to 4 at position m are the channels left and right of programmes 2m - 1 and 2m
 --     served-is                an accepted step: the six bytes first, then the sync
 --     position-kept            the six bytes are handed on with the position that they came with
 --     first-opens              Sync 1 starts a group at position 1
@@ -13,28 +10,27 @@
 --     neither-searches         a sync that is neither gives 7, drops, and sets searching
 --     separator-found, no-separator, group-brings, eighth-ends      what the group does that position 8 completes, by the stage
 -- Assumes nothing.
-use mathlib.Core.Path.{_≡_, refl, ap, _∙_}
-use mathlib.Core.Logic.{_⊎_, inr, ⊎-elim}
+use mathlib.Core.Path.{_≡_, refl, _∙_}
+use mathlib.Core.Logic.{_⊎_, inr}
 use mathlib.Core.Bool.{Bool, true, false, cond}
 use mathlib.Core.List.{List}
-use Prim.Native.Nat.{ℕ, _+_, _-_, _*_, _/_, _%_, _<_, _≤_}
+use Prim.Native.Nat.{ℕ, _+_, _<_, _≤_}
 use native.Mathlib.Omega.{arith}
-use lib.Dec.{eqb, leb, ltb}
-use lib.ListN.{getD}
-use borrow.Author.Tests.{leb-true, le-leb, lt-ltb, ne-eqb}
+use lib.Dec.{leb}
+use borrow.Author.Tests.{leb-true, le-leb, lt-ltb}
 use Rattle.bits.specs.Digits.{Below}
 use Rattle.bits.specs.Bits.{allBelow}
-use Rattle.service.specs.Places.{zeros}
-use Rattle.service.specs.Six.{channelByte, groupAfter, stageAfter, separates, takeSix, isReady}
-use Rattle.service.specs.Sync.{sync1, sync2, agree, kindOf, isOpen, dropsWith, takeSync}
+use Rattle.service_group.specs.Places.{zeros}
+use Rattle.service_group.specs.Six.{groupAfter, separates}
+use Rattle.service_sync.specs.Sync.{sync1, sync2, kindOf, dropsWith}
+use Rattle.service.specs.Taking.{takeSix, takeSync}
 use Rattle.service.specs.Service.{inRange, accepts, stepBy, served, searchingService}
 use Rattle.service.specs.declared.Service.{Service}
-use Rattle.service.specs.declared.sync.Kind.the-variants.{First, Second, Neither}
+use Rattle.service_sync.specs.declared.Kind.the-variants.{First, Second}
 use Rattle.bits.proofs.Tests.{both, both-left, both-right}
 use Rattle.bits.proofs.Bits.{below-all}
-use Rattle.bits.proofs.Table.{getD-tab}
-use Rattle.service.proofs.Orders.{at-comes}
-use Rattle.service.proofs.Syncs.{disagree}
+use Rattle.service_group.proofs.Groups.{separator-starts, none-starts, stage-grows, stage-ends, eighth-ready}
+use Rattle.service_sync.proofs.Syncs.{open-true, open-false, first-kind, second-kind, neither-kind}
 
 pub record InRange (s : Service) : Type 0 where
   pub position : s .position ≤ 8
@@ -52,52 +48,8 @@ in-range-fact s h =
       stage = leb-true (s .stage) 8 (both-right (leb (s .position) 8) (leb (s .stage) 8) h);
     }
 
--- ---- the sync
-pub open-true : (p : ℕ) → 0 < p → p < 8 → isOpen p ≡ true
-unfolding isOpen
-open-true p h k = both (ltb 0 p) (ltb p 8) (lt-ltb 0 p h) (lt-ltb p 8 k)
-
-pub open-false : (p : ℕ) → (p ≡ 0) ⊎ (p ≡ 8) → isOpen p ≡ false
-unfolding isOpen
-open-false p h = ⊎-elim (λ (e : p ≡ 0). rw e) (λ (e : p ≡ 8). rw e) h
-
-pub first-kind : kindOf sync1 ≡ First
-unfolding kindOf agree
-first-kind = refl
-
-pub second-kind : kindOf sync2 ≡ Second
-unfolding kindOf agree
-second-kind = refl
-
-pub neither-kind : (sync : List ℕ) → (sync ≡ sync1 → ⊥) → (sync ≡ sync2 → ⊥) → kindOf sync ≡ Neither
-unfolding kindOf
-neither-kind sync f g = rw (disagree sync sync1 f, disagree sync sync2 g)
-
 abbrev pub opened : Service
 opened = record { position = 1; group = zeros 32; stage = 0; labels = zeros 256 }
-
--- ---- the six bytes; channels count from 0, programmes from 1
-abbrev pub leftOf : ℕ → ℕ
-leftOf q = 2 * (q - 1)
-
-abbrev pub rightOf : ℕ → ℕ
-rightOf q = 2 * (q - 1) + 1
-
-module _ (m : ℕ) (g six : List ℕ) (l : 1 ≤ m) (u : m ≤ 8) where
-  byte-there : (i k : ℕ) → i ≡ 4 * (m - 1) + k → k < 4 → getD (groupAfter m g six) i 0 ≡ getD six k 0
-  unfolding groupAfter channelByte
-  byte-there i k e h =
-      let place : i / 4 + 1 ≡ m = omega arith in
-      let byte : i % 4 ≡ k = omega arith in
-      getD-tab 32 (channelByte m g six) i 0 (omega arith) ∙ at-comes m (i / 4 + 1) (getD g i 0) (getD six (i % 4) 0) place
-      ∙ ap (λ (n : ℕ). getD six n 0) byte
-
-  pub bytes-placed : (getD (groupAfter m g six) (leftOf (2 * m - 1)) 0 ≡ getD six 0 0)
-      × (getD (groupAfter m g six) (rightOf (2 * m - 1)) 0 ≡ getD six 1 0)
-      × (getD (groupAfter m g six) (leftOf (2 * m)) 0 ≡ getD six 2 0)
-      × (getD (groupAfter m g six) (rightOf (2 * m)) 0 ≡ getD six 3 0)
-  bytes-placed =
-      (byte-there (leftOf (2 * m - 1)) 0 (omega arith) (omega arith), byte-there (rightOf (2 * m - 1)) 1 (omega arith) (omega arith), byte-there (leftOf (2 * m)) 2 (omega arith) (omega arith), byte-there (rightOf (2 * m)) 3 (omega arith) (omega arith))
 
 none-left : (dropped : Bool) → _≡_ {A = ℕ} (cond dropped 0 0) 0
 none-left true = refl
@@ -150,20 +102,20 @@ module _ (s : Service) (six : List ℕ) (h : InRange s) where
 
   -- ---- position 8 completes a group
   pub separator-found : s .position ≡ 8 → s .stage ≡ 0 → separates (takeSix s six .group) ≡ true → served s six sync1 .next .stage ≡ 1
-  unfolding takeSync takeSix stageAfter
-  separator-found p t z = rw (served-first, z, p, t, open-false 8 (inr refl))
+  unfolding takeSync takeSix
+  separator-found p t z = rw (served-first, separator-starts _ _ _ p t z, p, open-false 8 (inr refl))
 
   pub no-separator : s .position ≡ 8 → s .stage ≡ 0 → separates (takeSix s six .group) ≡ false → served s six sync1 .next .stage ≡ 0
-  unfolding takeSync takeSix stageAfter
-  no-separator p t z = rw (served-first, z, p, t, open-false 8 (inr refl))
+  unfolding takeSync takeSix
+  no-separator p t z = rw (served-first, none-starts _ _ _ p t z, p, open-false 8 (inr refl))
 
   pub group-brings : s .position ≡ 8 → 0 < s .stage → s .stage < 8 → served s six sync1 .next .stage ≡ s .stage + 1
-  unfolding takeSync takeSix stageAfter
-  group-brings p l u =
-      let some : eqb (s .stage) 0 ≡ false = ne-eqb (s .stage) 0 (λ e. omega arith) in
-      rw (served-first, p, open-false 8 (inr refl), some, lt-ltb (s .stage) 8 u)
+  unfolding takeSync takeSix
+  group-brings p l u = rw (served-first, stage-grows _ _ (groupAfter (s .position) (s .group) six) p l u, p, open-false 8 (inr refl))
 
   pub eighth-ends : (sync : List ℕ) → Below 2 sync → s .position ≡ 8 → s .stage ≡ 8
       → (served s six sync .complete ≡ true) × (served s six sync .labels ≡ takeSix s six .labels) × (served s six sync .next .stage ≡ 0)
-  unfolding takeSync takeSix stageAfter isReady
-  eighth-ends sync b p t = (rw (served-is sync b, p, t), rw (served-is sync b, p, t), rw (served-is sync b, p, t) (none-left (dropsWith (kindOf sync) 8)))
+  unfolding takeSync takeSix
+  eighth-ends sync b p t =
+      let ends = stage-ends _ _ (groupAfter (s .position) (s .group) six) p t in
+      (rw (served-is sync b, p, t, eighth-ready), rw (served-is sync b, p, t, eighth-ready), rw (served-is sync b, ends, p) (none-left (dropsWith (kindOf sync) 8)))

@@ -9,25 +9,26 @@
 --     drop-resets, drop-none     a dropped group, a dropped Sync 2 or a 7 leaves no progress: the 71 steps behind it hand out none
 -- Assumes nothing.
 use mathlib.Core.Path.{_≡_, refl}
-use mathlib.Core.Bool.{Bool, true, false, cond}
+use mathlib.Core.Bool.{Bool, true, false}
 use mathlib.Core.List.{List, [], _∷_}
 use Prim.Native.Nat.{ℕ, _+_, _*_, _<_, _≤_}
 use native.Mathlib.Omega.{arith}
-use lib.Dec.{eqb, ltb}
 use lib.ListN.{length}
-use borrow.Author.Tests.{eqb-true, ltb-true, ne-eqb, not-true}
+use borrow.Author.Tests.{not-true}
 use Rattle.bits.specs.Digits.{Below}
-use Rattle.service.specs.Places.{zeros}
-use Rattle.service.specs.Six.{stageAfter, separates, groupAfter, takeSix, isReady}
-use Rattle.service.specs.Sync.{kindOf, isOpen, nextPosition, dropsWith, stageWith, takeSync}
+use Rattle.service_group.specs.Places.{zeros}
+use Rattle.service_group.specs.Six.{stageAfter, groupAfter, isReady}
+use Rattle.service_sync.specs.Sync.{kindOf, isOpen, nextPosition, dropsWith}
+use Rattle.service.specs.Taking.{takeSix, stageWith, takeSync}
 use Rattle.service.specs.Service.{accepts, refusedService, stepBy, served}
 use Rattle.service.specs.Run.{Step, stepped, after}
 use Rattle.service.specs.declared.Service.{Service}
 use Rattle.service.specs.declared.Served.{Served}
-use Rattle.service.specs.declared.sync.Kind.{Kind}
-use Rattle.service.specs.declared.sync.Kind.the-variants.{First, Second, Neither}
+use Rattle.service_sync.specs.declared.Kind.{Kind}
+use Rattle.service_sync.specs.declared.Kind.the-variants.{First, Second, Neither}
 use Rattle.bits.proofs.Tests.{picked}
-use Rattle.service.proofs.Syncs.{open-below}
+use Rattle.service_group.proofs.Groups.{stage-bound, stage-waits, ready-eighth}
+use Rattle.service_sync.proofs.Syncs.{open-below}
 use Rattle.service.proofs.Machine.{InRange, served-is}
 
 abbrev pub progress : Service → ℕ
@@ -38,23 +39,6 @@ pub record Moved (n : ℕ) (s s' : Service) : Type 0 where
   pub further : progress s' ≤ progress s + n
 
 -- ---- the numbers of a step
--- the stage behind six bytes, by the tests that choose it
-chosen : (p t : ℕ) (c z s l : Bool) → t ≤ 8 → eqb p 8 ≡ c → eqb t 0 ≡ z → ltb t 8 ≡ l
-    → (cond c (cond z (cond s 1 0) (cond l (t + 1) 0)) t ≤ 8) × (8 * cond c (cond z (cond s 1 0) (cond l (t + 1) 0)) t ≤ 8 * t + p)
-chosen p t true true true l h c z k = omega (arith, eqb-true p 8 c)
-chosen p t true true false l h c z k = omega arith
-chosen p t true false s true h c z k = omega (arith, eqb-true p 8 c, ltb-true t 8 k)
-chosen p t true false s false h c z k = omega arith
-chosen p t false z s l h c e k = omega arith
-
-pub stage-bound : (p t : ℕ) (g : List ℕ) → t ≤ 8 → (stageAfter p t g ≤ 8) × (8 * stageAfter p t g ≤ 8 * t + p)
-unfolding stageAfter
-stage-bound p t g h = chosen p t (eqb p 8) (eqb t 0) (separates g) (ltb t 8) h refl refl refl
-
-pub stage-waits : (p t : ℕ) (g : List ℕ) → p < 8 → stageAfter p t g ≡ t
-unfolding stageAfter
-stage-waits p t g h = rw (ne-eqb p 8 (λ e. omega arith))
-
 sync-bound : (k : Kind) (p t x : ℕ) (b : Bool) → isOpen p ≡ b → p ≤ 8 → x ≤ 8 → 8 * x ≤ 8 * t + p → (p < 8 → x ≡ t)
     → (nextPosition k p ≤ 8) × (stageWith k p x ≤ 8) × (8 * stageWith k p x + nextPosition k p ≤ 8 * t + p + 1)
 sync-bound First p t x true e h k m w = rw e (omega arith)
@@ -100,10 +84,9 @@ pub record NoLabels (r : Served) : Type 0 where
   pub labels : r .labels ≡ zeros 256
 
 not-ready : (p t : ℕ) → 8 * t + p < 72 → isReady p t ≡ false
-unfolding isReady
-not-ready p t h = by-test (eqb p 8) refl where
-  by-test : (b : Bool) → eqb p 8 ≡ b → cond b (eqb t 8) false ≡ false
-  by-test true e = ne-eqb t 8 (λ w. omega (arith, eqb-true p 8 e))
+not-ready p t h = by-test (isReady p t) refl where
+  by-test : (b : Bool) → isReady p t ≡ b → b ≡ false
+  by-test true e = let no : ⊥ = omega (arith, ready-eighth p t e) in absurd no
   by-test false e = refl
 
 pub far-none : (s : Service) (x : Step) → progress s < 72 → NoLabels (stepped s x)

@@ -13,7 +13,7 @@ use mathlib.Core.List.{List}
 use lib.Dec.{eqb}
 use lib.ListN.{getD}
 use Rattle.bits.specs.Table.{tabulate}
-use Rattle.service.specs.Sync.{sync1, sync2}
+use Rattle.service_sync.specs.Sync.{sync1, sync2}
 use Rattle.service.specs.Run.{Step}
 
 abbrev pub syncBehind : ℕ → List ℕ

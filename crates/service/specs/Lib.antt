@@ -1,6 +1,4 @@
-pub mod Places
-pub mod Six
-pub mod Sync
+pub mod Taking
 pub mod Service
 pub mod Run
 pub mod Broadcast

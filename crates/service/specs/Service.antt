@@ -10,12 +10,13 @@ use mathlib.Core.Bool.{Bool, false, cond}
 use mathlib.Core.List.{List}
 use lib.Dec.{leb}
 use Rattle.bits.specs.Bits.{allBelow}
-use Rattle.service.specs.Places.{zeros}
-use Rattle.service.specs.Six.{takeSix, isReady}
-use Rattle.service.specs.Sync.{kindOf, numberOf, takeSync}
+use Rattle.service_group.specs.Places.{zeros}
+use Rattle.service_group.specs.Six.{isReady}
+use Rattle.service_sync.specs.Sync.{kindOf, numberOf}
+use Rattle.service.specs.Taking.{takeSix, takeSync}
 use Rattle.service.specs.declared.Service.{Service}
 use Rattle.service.specs.declared.Served.{Served}
-use Rattle.service.specs.declared.sync.Kind.{Kind}
+use Rattle.service_sync.specs.declared.Kind.{Kind}
 
 unfoldable pub searchingService : Service
 searchingService = record { position = 0; group = zeros 32; stage = 0; labels = zeros 256 }

@@ -3,9 +3,7 @@
 ghost use mathlib.Core.Path.{_≡_};
 ghost use Rattle.service.specs.Service.{searchingService, inRange, accepts, refusedService, served};
 
-mod places;
-mod six;
-mod sync;
+mod taking;
 
 // Where the machine stands between two superframes. Places that carry nothing hold 0.
 pub struct Service {
@@ -82,14 +80,14 @@ pub fn serve(service: Service, six: [u8; 6], sync: [u8; 16]) -> Served
     if !accepted(service, sync) {
         return refused(service);
     }
-    let kind = sync::kind_of(sync);
-    let complete = six::ready(service.position, service.stage);
-    let taken = six::take(service, six);
+    let kind = service_sync::kind_of(sync);
+    let complete = service_group::ready(service.position, service.stage);
+    let taken = taking::take_six(service, six);
     let gathered = taken.labels;
-    let labels = places::labels_if(complete, gathered);
-    let next = sync::take(taken, kind);
+    let labels = taking::labels_if(complete, gathered);
+    let next = taking::take_sync(taken, kind);
     Served {
-        number: sync::number_of(kind),
+        number: service_sync::number_of(kind),
         position: service.position,
         complete,
         labels,

@@ -14,7 +14,7 @@ use lib.IntN.{ℤ}
 use lib.ListN.{length}
 use Rattle.bits.proofs.Tests.{either-way}
 use Rattle.tape.specs.Tape.{synced, blocksOf, refusedCounts, countedWith}
-use Rattle.tape.specs.Sound.{samplesOf, marksOf, lengthsFit, fillNumber, Filled}
+use Rattle.sound.specs.Sound.{samplesOf, marksOf, lengthsFit, fillNumber, Filled}
 use Rattle.tape.specs.declared.blocks.Counted.{Counted}
 use Rattle.superframe.specs.State.{stateInRange, lostState, lostWith}
 use Rattle.superframe.specs.Take.{takeNumber, besideWith, refusedWith, takeAnswer, Took}

@@ -16,7 +16,7 @@ use lib.ListN.{length, replicate}
 use Rattle.service.specs.Service.{served}
 use Rattle.service.specs.declared.Served.{Served}
 use Rattle.tape.specs.Tape.{synced, blocksOf, noBlocks}
-use Rattle.tape.specs.Sound.{samplesOf, marksOf, lengthsFit}
+use Rattle.sound.specs.Sound.{samplesOf, marksOf, lengthsFit}
 use Rattle.beside.specs.Beside.{programmesOf, sixAndSync}
 use Rattle.tape.specs.declared.blocks.Blocks.{Blocks}
 use Rattle.beside.specs.declared.Programmes.{Programmes}

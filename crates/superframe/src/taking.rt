@@ -83,14 +83,14 @@ impl State {
     pub fn take(self, bytes: &[u8], samples: &mut [i16], marks: &mut [u8]) -> Taken
         ensures { λ r. ⌜ Took self (now (bytes .entry)) (now (samples .entry)) (now (marks .entry)) r (now (samples .exit)) (now (marks .exit)) ⌝ }
     {
-        if !tape::lengths_fit(bytes.len(), samples.len(), marks.len()) {
+        if !sound::lengths_fit(bytes.len(), samples.len(), marks.len()) {
             return refused(1, self);
         }
         if !self.in_range() {
             return refused(2, self);
         }
         let factors = self.next;
-        let counted = tape::fill(bytes, &factors, samples, marks);
+        let counted = sound::fill(bytes, &factors, samples, marks);
         if counted.number != 0 {
             let lost = self.lose();
             let next = lost.next;

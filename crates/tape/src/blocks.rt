@@ -1,12 +1,11 @@
-// The 128 syncs and the 512 blocks of a superframe, from its bytes alone.
+// The 512 blocks of a superframe, read and counted, from its bytes alone.
 ghost use mathlib.Core.Path.{_≡_};
 ghost use Prim.Native.Nat.{_<_};
-ghost use lib.ListN.{length};
 ghost use Rattle.bits.specs.Table.{tabulate};
-ghost use Rattle.tape.specs.Tape.{letterOf, wrongAt, synced, blockIn, blockMark, refusedCounts, countsOf};
+ghost use Rattle.tape.specs.Tape.{blockIn, quadIn, blockMark, refusedCounts, countsOf};
 ghost use Rattle.tape.specs.Marks.{toldMark, marksIn, tallyIn, blocksIn};
+use super::frames;
 use block::BlockReading;
-use frame::Letter;
 
 // For each of the eight block positions, how many of its 64 blocks read so.
 pub struct Blocks {
@@ -15,54 +14,29 @@ pub struct Blocks {
     pub bad: [u8; 8],
 }
 
+// A block as read: its mark, and the codes of its four channels.
+pub struct Quad {
+    pub mark: u8,
+    pub codes: [i16; 4],
+}
+
 // Number 0 and the readings counted, or number 1 or 3 and zeros.
 pub struct Counted {
     pub number: u8,
     pub blocks: Blocks,
 }
 
-fn letter_of(f: usize) -> Letter
-    ensures { λ r. ⌜ r ≡ letterOf f ⌝ }
-{
-    if f < 64 { Letter::A } else { Letter::B }
-}
-
-// How many bits of a main frame's sync are wrong.
-fn wrong_at(sf: &[u8], f: usize) -> u8
-    requires { ⌜ (length (now sf) ≡ 5120) × (f < 128) ⌝ }
-    ensures { λ r. ⌜ r ≡ wrongAt (now (sf .entry)) f ⌝ }
-{
-    let a = 40 * f;
-    let e = a + 40;
-    frame::sync_errors(letter_of(f), &sf[a..e])
-}
-
-pub(crate) fn all_synced(sf: &[u8]) -> bool
-    requires { ⌜ length (now sf) ≡ 5120 ⌝ }
-    ensures { λ r. ⌜ r ≡ synced (now (sf .entry)) ⌝ }
-{
-    let mut f: usize = 0;
-    while f < 128 {
-        if frame::MOST_WRONG < wrong_at(sf, f) {
-            return false;
-        }
-        f += 1;
-    }
-    true
-}
-
 // The block in position p of frame number f.
-pub(crate) fn block_at(sf: &[u8], f: usize, p: usize) -> [u8; 77]
-    requires { ⌜ (length (now sf) ≡ 5120) × (f < 64) × (p < 8) ⌝ }
+fn block_at(sf: &[u8], f: u8, p: u8) -> [u8; 77]
     ensures { λ r. ⌜ r ≡ blockIn (now (sf .entry)) f p ⌝ }
 {
-    let a = 40 * (f + 64 * (p / 4));
-    let e = a + 40;
-    frame::block_of(&sf[a..e], p % 4)
+    let frame = (f as u16) + 64 * ((p / 4) as u16);
+    let place = (p % 4) as usize;
+    frame::block_of(frames::frame_at(sf, frame), place)
 }
 
 // A block of a main frame is bits: the last case does not come.
-pub(crate) fn mark_of(reading: BlockReading) -> u8
+fn mark_of(reading: BlockReading) -> u8
     ensures { λ r. ⌜ r ≡ toldMark reading ⌝ }
 {
     match reading {
@@ -73,8 +47,23 @@ pub(crate) fn mark_of(reading: BlockReading) -> u8
     }
 }
 
-fn mark_at(sf: &[u8], f: usize, p: usize) -> u8
-    requires { ⌜ (length (now sf) ≡ 5120) × (f < 64) × (p < 8) ⌝ }
+// The block in position p of frame number f as it is read; bits past the end are 0.
+pub fn read_at(sf: &[u8], f: u8, p: u8) -> Quad
+    ensures { λ r. ⌜ r ≡ quadIn (now (sf .entry)) f p ⌝ }
+{
+    let read = block::read(block_at(sf, f, p));
+    let reading = read.reading;
+    let bits = read.bits;
+    let taken = block_codes::codes_of(bits);
+    let codes = taken.codes;
+    Quad {
+        mark: mark_of(reading),
+        codes,
+    }
+}
+
+fn mark_at(sf: &[u8], f: u8, p: u8) -> u8
+    requires { ⌜ (f < 64) × (p < 8) ⌝ }
     ensures { λ r. ⌜ r ≡ blockMark (now (sf .entry)) f p ⌝ }
 {
     let read = block::read(block_at(sf, f, p));
@@ -84,13 +73,12 @@ fn mark_at(sf: &[u8], f: usize, p: usize) -> u8
 
 // The marks of all blocks, frame number by frame number.
 fn all_marks(sf: &[u8]) -> [u8; 512]
-    requires { ⌜ length (now sf) ≡ 5120 ⌝ }
     ensures { λ r. ⌜ r ≡ marksIn (now (sf .entry)) ⌝ }
 {
     let mut out = [0u8; 512];
     let mut n: usize = 0;
     while n < 512 {
-        out[n] = mark_at(sf, n / 8, n % 8);
+        out[n] = mark_at(sf, (n / 8) as u8, (n % 8) as u8);
         n += 1;
     }
     out
@@ -124,7 +112,7 @@ fn tallies(marks: [u8; 512], mark: u8) -> [u8; 8]
     out
 }
 
-pub(crate) fn gathered(marks: [u8; 512]) -> Blocks
+pub fn gathered(marks: [u8; 512]) -> Blocks
     ensures { λ r. ⌜ r ≡ blocksIn marks ⌝ }
 {
     Blocks {
@@ -134,7 +122,7 @@ pub(crate) fn gathered(marks: [u8; 512]) -> Blocks
     }
 }
 
-pub(crate) fn refused(number: u8) -> Counted
+pub fn refused(number: u8) -> Counted
     ensures { λ r. ⌜ r ≡ refusedCounts number ⌝ }
 {
     let blocks = Blocks {
@@ -152,7 +140,7 @@ pub fn counts(bytes: &[u8]) -> Counted
     if bytes.len() != 5120 {
         return refused(1);
     }
-    if !all_synced(bytes) {
+    if !frames::all_synced(bytes) {
         return refused(3);
     }
     Counted {

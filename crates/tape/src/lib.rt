@@ -1,9 +1,12 @@
-// The blocks and the sound of a superframe, from its bytes alone (document 01, "Superframe").
+// The syncs and the blocks of a superframe, from its bytes alone (document 01, "Superframe").
 mod blocks;
-mod sound;
+mod frames;
 
 pub use blocks::Blocks;
 pub use blocks::Counted;
+pub use blocks::Quad;
 pub use blocks::counts;
-pub use sound::fill;
-pub use sound::lengths_fit;
+pub use blocks::gathered;
+pub use blocks::read_at;
+pub use blocks::refused;
+pub use frames::all_synced;

@@ -1,6 +1,6 @@
 -- `service::refused` meets its contract. Assumes nothing.
 use mathlib.Core.Path.{refl}
-use Rattle.service.specs.Places.{zeros}
+use Rattle.service_group.specs.Places.{zeros}
 use Rattle.service.specs.Service.{refusedService}
 use Rattle.service.proofs.refused.Statement.{statement}
 use Rattle.service.proofs.refused.Tie as tie

@@ -1,6 +1,6 @@
 -- `service::searching` meets its contract. Assumes nothing.
 use mathlib.Core.Path.{refl}
-use Rattle.service.specs.Places.{zeros}
+use Rattle.service_group.specs.Places.{zeros}
 use Rattle.service.specs.Service.{searchingService}
 use Rattle.service.proofs.searching.Statement.{statement}
 use Rattle.service.proofs.searching.Tie as tie

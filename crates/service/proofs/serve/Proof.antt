@@ -24,14 +24,14 @@ kind-of-requires c κs = search needs
 ready-requires : tie.Need-ready-requires
 ready-requires c κs = search needs
 
-take-requires : tie.Need-take-requires
-take-requires c κs = search needs
+take-six-requires : tie.Need-take-six-requires
+take-six-requires c κs = search needs
 
 labels-if-requires : tie.Need-labels-if-requires
 labels-if-requires c κs = search needs
 
-take-requires-2 : tie.Need-take-requires-2
-take-requires-2 c κs = search needs
+take-sync-requires : tie.Need-take-sync-requires
+take-sync-requires c κs = search needs
 
 number-of-requires : tie.Need-number-of-requires
 number-of-requires c κs = search needs
@@ -46,7 +46,7 @@ returns-2 c =
     let kind = ready .before in
     let tested = kind .before in
     let yes = sym (tested .before .accepted .ensures) ∙ not-false _ (tested .if1 .left) in
-    rw (c .number-of .ensures, next .take2 .ensures, labels .labels-if .ensures, taken .take .ensures, ready .ready .ensures, kind .kind-of .ensures, yes)
+    rw (c .number-of .ensures, next .take-sync .ensures, labels .labels-if .ensures, taken .take-six .ensures, ready .ready .ensures, kind .kind-of .ensures, yes)
 
 pub serve-spec : {M : Type 1} → statement M
 serve-spec =
@@ -57,8 +57,8 @@ serve-spec =
     returns
     kind-of-requires
     ready-requires
-    take-requires
+    take-six-requires
     labels-if-requires
-    take-requires-2
+    take-sync-requires
     number-of-requires
     returns-2)

@@ -1,18 +1,19 @@
--- `exercise::words::end_of` is safe and ends. Assumes nothing.
-use Prim.Native.Nat.{_-_}
+-- `exercise::words::end_of` meets its contract and ends. Assumes nothing.
+use Prim.Native.Nat.{_-_, _≤_}
+use native.Mathlib.Omega.{arith}
 use lib.ListN.{length}
 use borrow.Author.Needs.{needs}
 use Rattle.exercise.proofs.words.end_of.Statement.{statement}
 use Rattle.exercise.proofs.words.end_of.Tie as tie
 
 abbrev Inv-loop : tie.InvT-loop
-Inv-loop line at end₀ end = Unit {0}
+Inv-loop line at end₀ end = (at ≤ end) × (at ≤ length line → end ≤ length line)
 
 abbrev μ-loop : tie.MeasureT-loop
 μ-loop line at end₀ end = length line - end
 
 loop-holds : tie.Need-loop-holds Inv-loop μ-loop
-loop-holds c = search needs
+loop-holds c = (omega arith, λ h. h)
 
 shared-slice-read-if1 : tie.Need-shared-slice-read-if1 Inv-loop μ-loop
 shared-slice-read-if1 c = search needs
@@ -24,13 +25,13 @@ loop-less : tie.Need-loop-less Inv-loop μ-loop
 loop-less c = search needs
 
 loop-again : tie.Need-loop-again Inv-loop μ-loop
-loop-again c = search needs
+loop-again c = (omega arith, λ h. omega arith)
 
 returns : tie.Need-returns Inv-loop μ-loop
-returns c = search needs
+returns c = c .before .loop .inv
 
 returns-2 : tie.Need-returns-2 Inv-loop μ-loop
-returns-2 c = search needs
+returns-2 c = c .before .before .before .loop .inv
 
 pub end-of-spec : {M : Type 1} → statement M
 end-of-spec =

@@ -3,7 +3,7 @@ use mathlib.Core.Path.{_≡_, refl, sym, ap, _∙_}
 use mathlib.Core.Bool.{true}
 use borrow.Author.Tests.{not-true, not-false}
 use lib.ListN.{length}
-use Rattle.tape.specs.Sound.{lengthsFit}
+use Rattle.sound.specs.Sound.{lengthsFit}
 use Rattle.superframe.specs.State.{stateInRange}
 use Rattle.superframe.specs.Take.{takeNumber, besideWith, refusedWith}
 use Rattle.superframe.specs.declared.state.Lost.{Lost}

@@ -1,7 +1,7 @@
 -- `superframe::state::State::take_service` meets its contract. Assumes nothing.
 use mathlib.Core.Path.{sym, _∙_}
 use borrow.Author.Tests.{not-true, not-false}
-use Rattle.service.specs.Places.{zeros}
+use Rattle.service_group.specs.Places.{zeros}
 use Rattle.service.specs.Service.{refusedService}
 use Rattle.superframe.specs.State.{servicedWith}
 use borrow.Author.Needs.{needs}
