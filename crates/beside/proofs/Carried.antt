@@ -5,12 +5,13 @@
 --     service-there         a service bit, the same
 --     left-there, right-there   the factors of a programme's two channels
 --     byte-there, six-there     a byte of the first 48 service bits; all six
+--     programmes-given, six-given     of a superframe's length nothing is refused
 -- Assumes nothing.
 use mathlib.Core.Path.{_≡_, sym, ap, _∙_}
 use mathlib.Core.List.{List}
 use Prim.Native.Nat.{ℕ, _+_, _*_, _/_, _%_, _<_}
 use native.Mathlib.Omega.{arith}
-use borrow.Author.Tests.{lt-ltb}
+use borrow.Author.Tests.{eq-eqb, lt-ltb}
 use lib.ListN.{length, getD, take, drop}
 use lib.Seq.{getD-take, getD-drop, length-take-le}
 use Rattle.bits.specs.Table.{tabulate}
@@ -21,7 +22,7 @@ use Rattle.frame.specs.Frame.{serviceIn, placeOf, deinterleave}
 use Rattle.frame.specs.Read.{serviceRead, blockOf}
 use Rattle.bits.proofs.Bits.{bitsOf-at}
 use Rattle.tape.specs.Tape.{frameAt, blockIn}
-use Rattle.beside.specs.Beside.{extraBit, extraOf, factorOr, factorRead, serviceBit, sixOf}
+use Rattle.beside.specs.Beside.{extraBit, extraOf, factorOr, factorRead, programmesOf, programmesAnswer, serviceBit, sixOf, sixAndSync, sixAnswer}
 use Rattle.tape.proofs.Tape.{block-there}
 
 pub frame-bit : (sf : List ℕ) (f k : ℕ) → k < 320 → bitAt sf (320 * f + k) ≡ bitAt (frameAt sf f) k
@@ -77,3 +78,13 @@ unfolding sixOf bytesOf
 six-there bits e =
     let size : length (take 48 bits) / 8 ≡ 6 = omega (arith, length-take-le 48 bits (omega arith)) in
     rw size
+
+-- ---- a superframe by its length
+module _ (sf : List ℕ) (e : length sf ≡ 5120) where
+  pub programmes-given : programmesAnswer sf ≡ programmesOf sf
+  unfolding programmesAnswer
+  programmes-given = rw (eq-eqb (length sf) 5120 e)
+
+  pub six-given : sixAnswer sf ≡ sixAndSync sf
+  unfolding sixAnswer
+  six-given = rw (eq-eqb (length sf) 5120 e)

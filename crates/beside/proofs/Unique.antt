@@ -3,13 +3,13 @@ use mathlib.Core.Path.{_≡_}
 use mathlib.Core.List.{List}
 use Prim.Native.Nat.{ℕ}
 use Rattle.bits.proofs.Unique.{same}
-use Rattle.beside.specs.Beside.{programmesOf, sixAndSync}
+use Rattle.beside.specs.Beside.{programmesAnswer, sixAnswer}
 use Rattle.beside.specs.declared.Programmes.{Programmes}
 use Rattle.beside.specs.declared.SixAndSync.{SixAndSync}
 
 module _ (sf : List ℕ) where
-  pub programmes-of-unique : (r r' : Programmes) → r ≡ programmesOf sf → r' ≡ programmesOf sf → r ≡ r'
+  pub programmes-of-unique : (r r' : Programmes) → r ≡ programmesAnswer sf → r' ≡ programmesAnswer sf → r ≡ r'
   programmes-of-unique r r' = same
 
-  pub six-and-sync-unique : (r r' : SixAndSync) → r ≡ sixAndSync sf → r' ≡ sixAndSync sf → r ≡ r'
+  pub six-and-sync-unique : (r r' : SixAndSync) → r ≡ sixAnswer sf → r' ≡ sixAnswer sf → r ≡ r'
   six-and-sync-unique r r' = same

@@ -6,14 +6,16 @@
 --     factorOr n s          a factor that came with number n: missing, 8, where there is a number
 --     factorRead sf c       the factor of channel c that holds for the superframe after the next
 --     programmesOf sf       the numbers and words of the 16 programmes and the factors of the 32 channels
+--     programmesAnswer sf   what asking for them answers: of another length than 5,120, number 1 and no factor for every programme
 --     serviceBits sf        bit 12 of the 64 main frames of A
 --     sixOf bits, syncOf bits   of 64 service bits: 1 to 48 are six bytes, 49 to 64 the sync of the following six
 --     sixAndSync sf         both, of a superframe's
+--     sixAnswer sf          what asking for them answers: number 1 and zeros for another length than 5,120
 use Prim.Native.Nat.{ℕ, _+_, _/_, _%_}
 use mathlib.Core.Bool.{cond}
 use mathlib.Core.List.{List}
 use lib.Dec.{eqb}
-use lib.ListN.{getD, take, drop}
+use lib.ListN.{length, getD, take, drop, replicate}
 use Rattle.bits.specs.Table.{tabulate}
 use Rattle.bits.specs.Bits.{bytesOf}
 use Rattle.scale.specs.Extra.{extraAnswer}
@@ -52,6 +54,12 @@ unfoldable pub programmesOf : List ℕ → Programmes
 programmesOf sf =
     record { numbers = tabulate 16 (numberAt sf); factors = tabulate 32 (factorRead sf); words = tabulate 16 (wordAt sf) }
 
+unfoldable pub refusedProgrammes : Programmes
+refusedProgrammes = record { numbers = replicate 16 1; factors = replicate 32 8; words = replicate 16 0 }
+
+unfoldable pub programmesAnswer : List ℕ → Programmes
+programmesAnswer sf = cond (eqb (length sf) 5120) (programmesOf sf) refusedProgrammes
+
 unfoldable pub serviceBit : List ℕ → ℕ → ℕ
 serviceBit sf f = serviceRead A (frameAt sf f)
 
@@ -65,4 +73,10 @@ unfoldable pub syncOf : List ℕ → List ℕ
 syncOf bits = drop 48 bits
 
 unfoldable pub sixAndSync : List ℕ → SixAndSync
-sixAndSync sf = record { six = sixOf (serviceBits sf); sync = syncOf (serviceBits sf) }
+sixAndSync sf = record { number = 0; six = sixOf (serviceBits sf); sync = syncOf (serviceBits sf) }
+
+unfoldable pub refusedSix : SixAndSync
+refusedSix = record { number = 1; six = replicate 6 0; sync = replicate 16 0 }
+
+unfoldable pub sixAnswer : List ℕ → SixAndSync
+sixAnswer sf = cond (eqb (length sf) 5120) (sixAndSync sf) refusedSix

@@ -1,12 +1,12 @@
 // What a superframe carries beside its sound: the extra bits of the 16 programmes, and the service bits.
 ghost use mathlib.Core.Path.{_≡_};
 ghost use Prim.Native.Nat.{_<_};
-ghost use Rattle.beside.specs.Beside.{extraBit, extraBits, extraOf, factorOr, programmesOf, serviceBits, sixOf, syncOf, sixAndSync};
+ghost use Rattle.beside.specs.Beside.{extraBit, extraBits, extraOf, factorOr, programmesOf, programmesAnswer, serviceBits, sixOf, syncOf, sixAnswer};
 use scale::Extra;
 
 // The extra bits of the 16 programmes as they read.
 pub struct Programmes {
-    // 0; 5: no scale word lies near enough
+    // 0; 5: no scale word lies near enough; 1: the bytes are no superframe
     pub numbers: [u8; 16],
     // of the 32 channels, for the superframe after the next; 8: missing
     pub factors: [u8; 32],
@@ -14,8 +14,9 @@ pub struct Programmes {
     pub words: [u32; 16],
 }
 
-// The 64 service bits of a superframe.
+// The 64 service bits of a superframe, and number 0; or number 1 and zeros.
 pub struct SixAndSync {
+    pub number: u8,
     // 1 to 48
     pub six: [u8; 6],
     // 49 to 64
@@ -63,8 +64,7 @@ fn factor_or(number: u8, factor: u8) -> u8
     if number == 0 { factor } else { 8 }
 }
 
-// Bits past the end of the bytes are 0.
-pub fn programmes_of(sf: &[u8]) -> Programmes
+fn all_programmes(sf: &[u8]) -> Programmes
     ensures { λ r. ⌜ r ≡ programmesOf (now (sf .entry)) ⌝ }
 {
     let mut numbers = [0u8; 16];
@@ -87,6 +87,20 @@ pub fn programmes_of(sf: &[u8]) -> Programmes
         factors,
         words,
     }
+}
+
+// Of what is no superframe no programme has a factor.
+pub fn programmes_of(sf: &[u8]) -> Programmes
+    ensures { λ r. ⌜ r ≡ programmesAnswer (now (sf .entry)) ⌝ }
+{
+    if sf.len() != 5120 {
+        return Programmes {
+            numbers: [1u8; 16],
+            factors: [8u8; 32],
+            words: [0u32; 16],
+        };
+    }
+    all_programmes(sf)
 }
 
 // Bit 12 of each main frame of A.
@@ -126,12 +140,19 @@ fn sync_of(bits: [u8; 64]) -> [u8; 16]
     out
 }
 
-// Bits past the end of the bytes are 0.
 pub fn six_and_sync(sf: &[u8]) -> SixAndSync
-    ensures { λ r. ⌜ r ≡ sixAndSync (now (sf .entry)) ⌝ }
+    ensures { λ r. ⌜ r ≡ sixAnswer (now (sf .entry)) ⌝ }
 {
+    if sf.len() != 5120 {
+        return SixAndSync {
+            number: 1,
+            six: [0u8; 6],
+            sync: [0u8; 16],
+        };
+    }
     let bits = service_bits(sf);
     SixAndSync {
+        number: 0,
         six: six_of(bits),
         sync: sync_of(bits),
     }

@@ -19,7 +19,7 @@ use Rattle.bits.proofs.Table.{getD-tab}
 use Rattle.bits.proofs.Tests.{either-way, both-true}
 use Rattle.service_sync.specs.Sync.{sync1, sync2, agree, kindOf}
 use Rattle.service.proofs.Machine.{served-is}
-use Rattle.tape.specs.Tape.{refusedCounts, countedWith, countsOf}
+use Rattle.tape.specs.Tape.{refusedCounts, countedWith, syncNumber, countsOf}
 use Rattle.sound.specs.Sound.{lengthsFit}
 use Rattle.beside.specs.Beside.{numberAt, programmesOf, sixAndSync}
 use Rattle.superframe.specs.State.{serviceOf, stateInRange}
@@ -70,7 +70,7 @@ superframe-fits n m k t = both-true (eqb n 5120) (eqb m 2048 && eqb k 2048) t .0
 
 sync-number : (s : State) (sf : List ℕ) (samples : List ℤ) (marks : List ℕ) →
     (takeNumber s sf samples marks ≡ 0) ⊎ (takeNumber s sf samples marks ≡ 3) → countsOf sf ≡ countedWith (takeNumber s sf samples marks) sf
-unfolding takeNumber countsOf
+unfolding takeNumber countsOf syncNumber
 sync-number s sf samples marks e =
     either-way (lengthsFit (length sf) (length samples) (length marks))
     (λ t. either-way (stateInRange s)

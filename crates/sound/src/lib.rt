@@ -5,7 +5,7 @@ ghost use Prim.Native.Nat.{_+_, _*_, _<_};
 ghost use lib.ListN.{length};
 ghost use Rattle.bits.specs.Table.{tabulate};
 ghost use Rattle.sample.specs.Sample.{isCode};
-ghost use Rattle.tape.specs.Marks.{rowMark, marksIn};
+ghost use Rattle.tape.specs.Tape.{blockMark, inEights};
 ghost use Rattle.sound.specs.Sound.{soundAt, markWith, inRows, sampleAt, markAt, samplesOf, marksOf, lengthsFit, Filled};
 use sample::Sampled;
 use tape::Counted;
@@ -30,10 +30,10 @@ fn marked(mark: u8, factor: u8) -> u8
 
 // Block n, frame number by frame number: four samples and four marks, and the block's own mark.
 fn four(sf: &[u8], n: usize, factors: &[u8; 32], samples: &mut [i16], marks: &mut [u8]) -> u8
-    requires { ⌜ n < 512 ⌝ }
+    requires { ⌜ (length (now sf) ≡ 5120) × (n < 512) ⌝ }
     requires { ⌜ length (now samples) ≡ 4 ⌝ }
     requires { ⌜ length (now marks) ≡ 4 ⌝ }
-    ensures { λ r. ⌜ r ≡ rowMark (now (sf .entry)) n ⌝ }
+    ensures { λ r. ⌜ r ≡ inEights (blockMark (now (sf .entry))) n ⌝ }
     ensures { λ _. ⌜ now (samples .exit) ≡ tabulate 4 (λ j. inRows (sampleAt (now (sf .entry)) (now (factors .entry))) (4 * n + j)) ⌝ }
     ensures { λ _. ⌜ now (marks .exit) ≡ tabulate 4 (λ j. inRows (markAt (now (sf .entry)) (now (factors .entry))) (4 * n + j)) ⌝ }
 {
@@ -55,9 +55,10 @@ fn four(sf: &[u8], n: usize, factors: &[u8; 32], samples: &mut [i16], marks: &mu
 
 // All 2,048 places of both; the blocks' own marks are handed back.
 fn fill_all(sf: &[u8], factors: &[u8; 32], samples: &mut [i16], marks: &mut [u8]) -> [u8; 512]
+    requires { ⌜ length (now sf) ≡ 5120 ⌝ }
     requires { ⌜ length (now samples) ≡ 2048 ⌝ }
     requires { ⌜ length (now marks) ≡ 2048 ⌝ }
-    ensures { λ r. ⌜ r ≡ marksIn (now (sf .entry)) ⌝ }
+    ensures { λ r. ⌜ r ≡ tabulate 512 (inEights (blockMark (now (sf .entry)))) ⌝ }
     ensures { λ _. ⌜ now (samples .exit) ≡ samplesOf (now (sf .entry)) (now (factors .entry)) ⌝ }
     ensures { λ _. ⌜ now (marks .exit) ≡ marksOf (now (sf .entry)) (now (factors .entry)) ⌝ }
 {
@@ -93,12 +94,9 @@ pub fn fill(bytes: &[u8], factors: &[u8; 32], samples: &mut [i16], marks: &mut [
     if !lengths_fit(bytes.len(), samples.len(), marks.len()) {
         return tape::refused(1);
     }
-    if !tape::all_synced(bytes) {
-        return tape::refused(3);
+    let number = tape::sync_number(bytes);
+    if number != 0 {
+        return tape::refused(number);
     }
-    let read = fill_all(bytes, factors, samples, marks);
-    Counted {
-        number: 0,
-        blocks: tape::gathered(read),
-    }
+    tape::gathered(fill_all(bytes, factors, samples, marks))
 }

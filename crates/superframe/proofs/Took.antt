@@ -13,8 +13,10 @@ use lib.Dec.{eqb}
 use lib.IntN.{ℤ}
 use lib.ListN.{length}
 use Rattle.bits.proofs.Tests.{either-way}
-use Rattle.tape.specs.Tape.{synced, blocksOf, refusedCounts, countedWith}
+use borrow.Author.Tests.{eq-eqb}
+use Rattle.tape.specs.Tape.{synced, blocksOf, refusedCounts, countedWith, syncNumber}
 use Rattle.sound.specs.Sound.{samplesOf, marksOf, lengthsFit, fillNumber, Filled}
+use Rattle.sound.proofs.Samples.{fits}
 use Rattle.tape.specs.declared.blocks.Counted.{Counted}
 use Rattle.superframe.specs.State.{stateInRange, lostState, lostWith}
 use Rattle.superframe.specs.Take.{takeNumber, besideWith, refusedWith, takeAnswer, Took}
@@ -28,8 +30,8 @@ lost-next s e = rw e
 module _ (sf factors : List ℕ) (samples : List ℤ) (marks : List ℕ) (r : Counted) (samples' : List ℤ) (marks' : List ℕ)
     (f : Filled sf factors samples marks r samples' marks') (fit : lengthsFit (length sf) (length samples) (length marks) ≡ true) where
   numbered : fillNumber sf samples marks ≡ cond (synced sf) 0 3
-  unfolding fillNumber
-  numbered = rw fit
+  unfolding fillNumber syncNumber
+  numbered = rw (fit, eq-eqb (length sf) 5120 (fits (length sf) (length samples) (length marks) fit .0))
 
   counted : (n : ℕ) → cond (synced sf) 0 3 ≡ n → r ≡ countedWith n sf
   counted n e = f .answer ∙ ap (λ (n : ℕ). countedWith n sf) (numbered ∙ e)

@@ -1,5 +1,6 @@
 // A superframe is taken: its samples and marks go into two lent slices, and the state comes back with the answer.
 ghost use mathlib.Core.Path.{_≡_};
+ghost use lib.ListN.{length};
 ghost use Rattle.superframe.specs.Take.{besideWith, refusedWith, Took};
 use super::state;
 use super::state::State;
@@ -28,11 +29,8 @@ pub struct Taken {
 fn refused(number: u8, next: State) -> Taken
     ensures { λ r. ⌜ r ≡ refusedWith number next ⌝ }
 {
-    let blocks = Blocks {
-        clean: [0u8; 8],
-        mended: [0u8; 8],
-        bad: [0u8; 8],
-    };
+    let counted = tape::refused(number);
+    let blocks = counted.blocks;
     let programmes = Programmes {
         numbers: [0u8; 16],
         factors: [0u8; 32],
@@ -53,6 +51,7 @@ fn refused(number: u8, next: State) -> Taken
 
 // All that is answered beside the samples and marks, with the readings already counted.
 fn answered(state: State, bytes: &[u8], blocks: Blocks) -> Taken
+    requires { ⌜ length (now bytes) ≡ 5120 ⌝ }
     ensures { λ r. ⌜ r ≡ besideWith state (now (bytes .entry)) blocks ⌝ }
 {
     let programmes = beside::programmes_of(bytes);

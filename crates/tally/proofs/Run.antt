@@ -12,7 +12,7 @@ use borrow.Author.Tests.{eq-eqb}
 use lib.ListN.{length}
 use Rattle.bits.proofs.Tests.{either-way}
 use Rattle.reel.specs.Header.{mostSuperframes}
-use Rattle.tape.specs.Tape.{synced, blocksOf, noBlocks, refusedCounts, countedWith, countsOf}
+use Rattle.tape.specs.Tape.{synced, blocksOf, noBlocks, refusedCounts, countedWith, syncNumber, countsOf}
 use Rattle.tally.specs.Totals.{grown, sumOf, noTotals, withCounted, stepped, totalsFrom, totalsOf}
 use Rattle.tally.specs.Reel.{isLost, blocksWith, total, counted, Superframes}
 use Rattle.tally.specs.declared.Totals.{Totals}
@@ -61,7 +61,7 @@ withOne : (t : Totals) (sf : List ℕ) → length sf ≡ 5120 →
       mended = grown (t .mended) (blocksWith 1 sf);
       bad = grown (t .bad) (blocksWith 2 sf);
     }
-unfolding stepped withCounted countsOf countedWith refusedCounts isLost blocksWith blocksOf noBlocks sumOf
+unfolding stepped withCounted countsOf syncNumber countedWith refusedCounts isLost blocksWith blocksOf noBlocks sumOf
 withOne t sf l =
     rw (eq-eqb (length sf) 5120 l)
     (either-way (synced sf)

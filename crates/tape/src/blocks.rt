@@ -2,8 +2,8 @@
 ghost use mathlib.Core.Path.{_≡_};
 ghost use Prim.Native.Nat.{_<_};
 ghost use Rattle.bits.specs.Table.{tabulate};
-ghost use Rattle.tape.specs.Tape.{blockIn, quadIn, blockMark, refusedCounts, countsOf};
-ghost use Rattle.tape.specs.Marks.{toldMark, marksIn, tallyIn, blocksIn};
+ghost use lib.Dec.{eqb};
+ghost use Rattle.tape.specs.Tape.{blockIn, toldMark, blockMark, quadIn, refusedQuad, quadAnswer, howMany, talliedBy, inEights, markAmong, gatheredFrom, refusedCounts, countsOf};
 use super::frames;
 use block::BlockReading;
 
@@ -14,13 +14,14 @@ pub struct Blocks {
     pub bad: [u8; 8],
 }
 
-// A block as read: its mark, and the codes of its four channels.
+// A block as read: number 0, its mark, and the codes of its four channels; or number 1 or 2 and zeros.
 pub struct Quad {
+    pub number: u8,
     pub mark: u8,
     pub codes: [i16; 4],
 }
 
-// Number 0 and the readings counted, or number 1 or 3 and zeros.
+// Number 0 and the readings counted; or number 1, 2 or 3 and zeros.
 pub struct Counted {
     pub number: u8,
     pub blocks: Blocks,
@@ -47,8 +48,8 @@ fn mark_of(reading: BlockReading) -> u8
     }
 }
 
-// The block in position p of frame number f as it is read; bits past the end are 0.
-pub fn read_at(sf: &[u8], f: u8, p: u8) -> Quad
+// The block in position p of frame number f as it is read and handed on.
+fn quad_at(sf: &[u8], f: u8, p: u8) -> Quad
     ensures { λ r. ⌜ r ≡ quadIn (now (sf .entry)) f p ⌝ }
 {
     let read = block::read(block_at(sf, f, p));
@@ -57,28 +58,47 @@ pub fn read_at(sf: &[u8], f: u8, p: u8) -> Quad
     let taken = block_codes::codes_of(bits);
     let codes = taken.codes;
     Quad {
+        number: 0,
         mark: mark_of(reading),
         codes,
     }
 }
 
-fn mark_at(sf: &[u8], f: u8, p: u8) -> u8
-    requires { ⌜ (f < 64) × (p < 8) ⌝ }
-    ensures { λ r. ⌜ r ≡ blockMark (now (sf .entry)) f p ⌝ }
+fn no_quad(number: u8) -> Quad
+    ensures { λ r. ⌜ r ≡ refusedQuad number ⌝ }
 {
-    let read = block::read(block_at(sf, f, p));
-    let reading = read.reading;
-    mark_of(reading)
+    Quad {
+        number,
+        mark: 0,
+        codes: [0i16; 4],
+    }
+}
+
+// The same for any bytes and any place.
+pub fn read_at(sf: &[u8], f: u8, p: u8) -> Quad
+    ensures { λ r. ⌜ r ≡ quadAnswer (now (sf .entry)) f p ⌝ }
+{
+    if sf.len() != 5120 {
+        return no_quad(1);
+    }
+    if 64 <= f {
+        return no_quad(2);
+    }
+    if 8 <= p {
+        return no_quad(2);
+    }
+    quad_at(sf, f, p)
 }
 
 // The marks of all blocks, frame number by frame number.
 fn all_marks(sf: &[u8]) -> [u8; 512]
-    ensures { λ r. ⌜ r ≡ marksIn (now (sf .entry)) ⌝ }
+    ensures { λ r. ⌜ r ≡ tabulate 512 (inEights (blockMark (now (sf .entry)))) ⌝ }
 {
     let mut out = [0u8; 512];
     let mut n: usize = 0;
     while n < 512 {
-        out[n] = mark_at(sf, (n / 8) as u8, (n % 8) as u8);
+        let block = quad_at(sf, (n / 8) as u8, (n % 8) as u8);
+        out[n] = block.mark;
         n += 1;
     }
     out
@@ -87,7 +107,7 @@ fn all_marks(sf: &[u8]) -> [u8; 512]
 // How many blocks of a position have a mark.
 fn tally(marks: [u8; 512], mark: u8, p: usize) -> u8
     requires { ⌜ p < 8 ⌝ }
-    ensures { λ r. ⌜ r ≡ tallyIn marks mark p ⌝ }
+    ensures { λ r. ⌜ r ≡ howMany 64 (λ f. eqb (markAmong marks f p) mark) ⌝ }
 {
     let mut sum: u8 = 0;
     let mut f: usize = 0;
@@ -101,7 +121,7 @@ fn tally(marks: [u8; 512], mark: u8, p: usize) -> u8
 }
 
 fn tallies(marks: [u8; 512], mark: u8) -> [u8; 8]
-    ensures { λ r. ⌜ r ≡ tabulate 8 (tallyIn marks mark) ⌝ }
+    ensures { λ r. ⌜ r ≡ talliedBy (markAmong marks) mark ⌝ }
 {
     let mut out = [0u8; 8];
     let mut p: usize = 0;
@@ -112,16 +132,22 @@ fn tallies(marks: [u8; 512], mark: u8) -> [u8; 8]
     out
 }
 
-pub fn gathered(marks: [u8; 512]) -> Blocks
-    ensures { λ r. ⌜ r ≡ blocksIn marks ⌝ }
+// The counts of 512 marks, frame number by frame number.
+pub fn gathered(marks: [u8; 512]) -> Counted
+    ensures { λ r. ⌜ r ≡ gatheredFrom marks ⌝ }
 {
-    Blocks {
+    if !bits::all_below(&marks, 3) {
+        return refused(2);
+    }
+    let blocks = Blocks {
         clean: tallies(marks, 0),
         mended: tallies(marks, 1),
         bad: tallies(marks, 2),
-    }
+    };
+    Counted { number: 0, blocks }
 }
 
+// A refusal has a number: 0 is none.
 pub fn refused(number: u8) -> Counted
     ensures { λ r. ⌜ r ≡ refusedCounts number ⌝ }
 {
@@ -130,6 +156,9 @@ pub fn refused(number: u8) -> Counted
         mended: [0u8; 8],
         bad: [0u8; 8],
     };
+    if number == 0 {
+        return Counted { number: 2, blocks };
+    }
     Counted { number, blocks }
 }
 
@@ -137,14 +166,9 @@ pub fn refused(number: u8) -> Counted
 pub fn counts(bytes: &[u8]) -> Counted
     ensures { λ r. ⌜ r ≡ countsOf (now (bytes .entry)) ⌝ }
 {
-    if bytes.len() != 5120 {
-        return refused(1);
+    let number = frames::sync_number(bytes);
+    if number != 0 {
+        return refused(number);
     }
-    if !frames::all_synced(bytes) {
-        return refused(3);
-    }
-    Counted {
-        number: 0,
-        blocks: gathered(all_marks(bytes)),
-    }
+    gathered(all_marks(bytes))
 }

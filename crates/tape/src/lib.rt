@@ -9,4 +9,4 @@ pub use blocks::counts;
 pub use blocks::gathered;
 pub use blocks::read_at;
 pub use blocks::refused;
-pub use frames::all_synced;
+pub use frames::sync_number;

@@ -6,7 +6,7 @@ use native.Mathlib.Omega.{arith}
 use lib.ListN.{length, take, length-take, length-drop}
 use Rattle.bits.specs.Table.{tabulate}
 use Rattle.bits.proofs.Table.{tab-none, tab-more, tab-done, filled, filled-zero, filled-all, length-filled}
-use Rattle.tape.specs.Marks.{rowMark, marksIn}
+use Rattle.tape.specs.Tape.{blockMark, inEights}
 use Rattle.sound.specs.Sound.{sampleAt, markAt, inRows, samplesOf, marksOf}
 use Rattle.sound.proofs.Samples.{part-back}
 use borrow.Author.Needs.{needs}
@@ -19,7 +19,7 @@ Inv-loop sf factors samples₀ marks₀ out₀ n₀ samples marks out n =
     × (samples ≡ filled (inRows (sampleAt sf factors)) (4 * n) samples₀)
     × (marks ≡ filled (inRows (markAt sf factors)) (4 * n) marks₀)
     × (length out ≡ 512)
-    × (take n out ≡ tabulate n (rowMark sf))
+    × (take n out ≡ tabulate n (inEights (blockMark sf)))
 
 abbrev μ-loop : tie.MeasureT-loop
 μ-loop sf factors samples₀ marks₀ out₀ n₀ samples marks out n = 512 - n
@@ -29,17 +29,17 @@ module _ (c : tie.At-loop Inv-loop μ-loop) where
   long : length (c .loop .samples) ≡ 2048
   long =
       let s = c .before .before .before in
-      let n : length (s .args .samples .now) ≡ 2048 = s .pre .0 in
+      let n : length (s .args .samples .now) ≡ 2048 = s .pre .1 .0 in
       ap length (c .loop .inv .1) ∙ length-filled _ (4 * c .loop .n) (s .args .samples .now) (omega arith) ∙ n
 
   long' : length (c .loop .marks) ≡ 2048
   long' =
       let s = c .before .before .before in
-      let n : length (s .args .marks .now) ≡ 2048 = s .pre .1 in
+      let n : length (s .args .marks .now) ≡ 2048 = s .pre .1 .1 in
       ap length (c .loop .inv .2) ∙ length-filled _ (4 * c .loop .n) (s .args .marks .now) (omega arith) ∙ n
 
 loop-holds : tie.Need-loop-holds Inv-loop μ-loop
-loop-holds c = (search needs, filled-zero _ _, filled-zero _ _, search needs, tab-none (rowMark (c .before .before .args .sf .now)) [])
+loop-holds c = (search needs, filled-zero _ _, filled-zero _ _, search needs, tab-none (inEights (blockMark (c .before .before .args .sf .now))) [])
 
 mul-a : tie.Need-mul-a Inv-loop μ-loop
 mul-a c = search needs
@@ -71,7 +71,7 @@ part-four-end-2 c = omega (arith, long' (c .before .before))
 four-requires : tie.Need-four-requires Inv-loop μ-loop
 four-requires c κs =
     let h = c .before .before .before in
-    (search needs, (rw (length-take, length-drop, long h) (omega arith), rw (length-take, length-drop, long' h) (omega arith)))
+    ((h .before .before .before .pre .0, search needs), (rw (length-take, length-drop, long h) (omega arith), rw (length-take, length-drop, long' h) (omega arith)))
 
 array-write-out : tie.Need-array-write-out Inv-loop μ-loop
 array-write-out c = search needs
@@ -88,30 +88,30 @@ loop-again c =
     let h = d .before .before .before .before in
     let s = h .before .before .before in
     let a = s .args in
-    let n : length (a .samples .now) ≡ 2048 = s .pre .0 in
-    let n' : length (a .marks .now) ≡ 2048 = s .pre .1 in (
+    let n : length (a .samples .now) ≡ 2048 = s .pre .1 .0 in
+    let n' : length (a .marks .now) ≡ 2048 = s .pre .1 .1 in (
       search needs,
       part-back (inRows (sampleAt (a .sf .now) (a .factors .now))) (h .loop .n) (a .samples .now) _ _ (omega arith) (h .loop .inv .1) (d .four .ensures .1 .0),
       part-back (inRows (markAt (a .sf .now) (a .factors .now))) (h .loop .n) (a .marks .now) _ _ (omega arith) (h .loop .inv .2) (d .four .ensures .1 .1),
       search needs,
-      tab-more (rowMark (a .sf .now)) (h .loop .out) (h .loop .n) _ (omega arith) (h .loop .inv .4) (d .four .ensures .0),
+      tab-more (inEights (blockMark (a .sf .now))) (h .loop .out) (h .loop .n) _ (omega arith) (h .loop .inv .4) (d .four .ensures .0),
     )
 
 same-length : tie.Need-same-length Inv-loop μ-loop
-same-length c = long (c .before) ∙ sym (c .before .before .before .before .pre .0)
+same-length c = long (c .before) ∙ sym (c .before .before .before .before .pre .1 .0)
 
 same-length-2 : tie.Need-same-length-2 Inv-loop μ-loop
-same-length-2 c = long' (c .before) ∙ sym (c .before .before .before .before .pre .1)
+same-length-2 c = long' (c .before) ∙ sym (c .before .before .before .before .pre .1 .1)
 
 returns : tie.Need-returns Inv-loop μ-loop
-unfolding marksIn samplesOf marksOf
+unfolding samplesOf marksOf
 returns c =
     let h = c .before in
     let s = h .before .before .before in
     let a = s .args in
     let e : 4 * h .loop .n ≡ 2048 = omega arith in (
-      tab-done (rowMark (a .sf .now)) (h .loop .out) 512 (h .loop .n) (omega arith) (omega arith) (omega arith) (h .loop .inv .4),
-      (h .loop .inv .1 ∙ rw e (filled-all _ 2048 (a .samples .now) (s .pre .0)), h .loop .inv .2 ∙ rw e (filled-all _ 2048 (a .marks .now) (s .pre .1))),
+      tab-done (inEights (blockMark (a .sf .now))) (h .loop .out) 512 (h .loop .n) (omega arith) (omega arith) (omega arith) (h .loop .inv .4),
+      (h .loop .inv .1 ∙ rw e (filled-all _ 2048 (a .samples .now) (s .pre .1 .0)), h .loop .inv .2 ∙ rw e (filled-all _ 2048 (a .marks .now) (s .pre .1 .1))),
     )
 
 pub fill-all-spec : {M : Type 1} → statement M

@@ -1,7 +1,7 @@
 -- `sound::four` meets its contract. Assumes nothing.
 use mathlib.Core.Path.{_≡_, sym, ap, _∙_}
 use mathlib.Core.List.{List}
-use Prim.Native.Nat.{ℕ, _+_, _-_, _*_, _/_, _%_, _≤_}
+use Prim.Native.Nat.{ℕ, _+_, _-_, _*_, _/_, _%_, _<_, _≤_}
 use native.Mathlib.Numerals.{add-one}
 use native.Mathlib.Omega.{arith}
 use lib.IntN.{ℤ, pos}
@@ -13,10 +13,9 @@ use Rattle.bits.proofs.Table.{filled, filled-zero, filled-set, filled-all, leng
 use Rattle.block.specs.Read.{handedOn}
 use Rattle.block_codes.specs.Codes.{codesAt}
 use Rattle.tape.specs.Tape.{blockIn, quadIn}
-use Rattle.tape.specs.Marks.{rowMark}
 use Rattle.sound.specs.Sound.{soundAt, markWith, sampleAt, markAt, inRows}
 use Rattle.tape.specs.declared.blocks.Quad.{Quad}
-use Rattle.tape.proofs.Quads.{quad-mark}
+use Rattle.tape.proofs.Quads.{quad-mark, quad-given}
 use Rattle.sound.proofs.Samples.{code-there, code-inside, sample-there, mark-there}
 use borrow.Author.Needs.{needs}
 use Rattle.sound.proofs.four.Statement.{statement}
@@ -70,6 +69,14 @@ mul-sound-of c = search needs
 array-copy-out-sound-of : tie.Need-array-copy-out-sound-of Inv-loop μ-loop
 array-copy-out-sound-of c = search needs
 
+-- a superframe, and a place that is there: the block was not refused
+module _ (c : tie.After-read-at Inv-loop μ-loop) where
+  given : c .read-at .result ≡ quadIn (c .before .before .before .args .sf .now) (c .before .before .before .args .n / 8) (c .before .before .before .args .n % 8)
+  given =
+      let s = c .before .before .before in
+      let there : s .args .n < 512 = s .pre .0 .1 in
+      c .read-at .ensures ∙ quad-given (s .args .sf .now) (s .args .n / 8) (s .args .n % 8) (s .pre .0 .0) (omega arith) (omega arith)
+
 -- code j of the block that was read
 module _ (c : tie.After-sound-of-arg Inv-loop μ-loop) where
   start : tie.Start Inv-loop μ-loop
@@ -84,7 +91,7 @@ module _ (c : tie.After-sound-of-arg Inv-loop μ-loop) where
   code-is =
       let j = c .before .before .before .loop .j in
       toZ-ofZ w16 (getD (c .before .before .before .before .before .read-at .result .codes) j (pos 0)) (record { sfits = c .sound-of-arg .given })
-      ∙ ap (λ (q : Quad). getD (q .codes) j (pos 0)) (c .before .before .before .before .before .read-at .ensures)
+      ∙ ap (λ (q : Quad). getD (q .codes) j (pos 0)) (given (c .before .before .before .before .before))
 
 sound-of-requires : tie.Need-sound-of-requires Inv-loop μ-loop
 unfolding start block
@@ -123,7 +130,7 @@ loop-again c =
     c .before .sound-of .ensures ∙ ap (λ (z : ℤ). soundAt z (getD (a .factors .now) (4 * (a .n % 8) + j) 0)) (code-is (c .before .before))
     ∙ sample-there (a .sf .now) (a .factors .now) (a .n) j (omega arith) in
     let mark : c .marked .result ≡ inRows (markAt (a .sf .now) (a .factors .now)) (4 * a .n + j) =
-    c .marked .ensures ∙ ap (λ (q : Quad). markWith (q .mark) (getD (a .factors .now) (4 * (a .n % 8) + j) 0)) (h .before .before .read-at .ensures)
+    c .marked .ensures ∙ ap (λ (q : Quad). markWith (q .mark) (getD (a .factors .now) (4 * (a .n % 8) + j) 0)) (given (h .before .before))
     ∙ ap (λ (m : ℕ). markWith m (getD (a .factors .now) (4 * (a .n % 8) + j) 0)) (quad-mark (a .sf .now) (a .n / 8) (a .n % 8) (omega arith) (omega arith))
     ∙ mark-there (a .sf .now) (a .factors .now) (a .n) j (omega arith) in (
       search needs,
@@ -140,12 +147,11 @@ same-length-2 : tie.Need-same-length-2 Inv-loop μ-loop
 same-length-2 c = long' (c .before) ∙ sym (c .before .before .before .before .before .before .pre .1 .1)
 
 returns : tie.Need-returns Inv-loop μ-loop
-unfolding rowMark
 returns c =
     let h = c .before in
     let s = h .before .before .before .before .before in
     let e : h .loop .j ≡ 4 = omega arith in (
-      ap (λ (q : Quad). q .mark) (h .before .before .read-at .ensures) ∙ quad-mark (s .args .sf .now) (s .args .n / 8) (s .args .n % 8) (omega arith) (omega arith),
+      ap (λ (q : Quad). q .mark) (given (h .before .before)) ∙ quad-mark (s .args .sf .now) (s .args .n / 8) (s .args .n % 8) (omega arith) (omega arith),
       (h .loop .inv .1 ∙ rw e (filled-all _ 4 (s .args .samples .now) (s .pre .1 .0)), h .loop .inv .2 ∙ rw e (filled-all _ 4 (s .args .marks .now) (s .pre .1 .1))),
     )
 

@@ -1,4 +1,6 @@
 -- `superframe::taking::answered` meets its contract. Assumes nothing.
+use mathlib.Core.Path.{_∙_}
+use Rattle.beside.proofs.Carried.{programmes-given, six-given}
 use Rattle.superframe.specs.Take.{besideWith}
 use borrow.Author.Needs.{needs}
 use Rattle.superframe.proofs.taking.answered.Statement.{statement}
@@ -25,12 +27,13 @@ returns c =
     let served = c .before .before .before .before .before in
     let part = served .before in
     let sent = part .before .before .before in
+    let long = sent .before .before .before .pre in
     rw (
       c .joined .ensures,
       served .serve .ensures,
       part .service-of .ensures,
-      sent .six-and-sync .ensures,
-      sent .before .programmes-of .ensures,
+      sent .six-and-sync .ensures ∙ six-given _ long,
+      sent .before .programmes-of .ensures ∙ programmes-given _ long,
     )
 
 pub answered-spec : {M : Type 1} → statement M

@@ -4,6 +4,7 @@ use mathlib.Core.Bool.{true}
 use borrow.Author.Tests.{not-true, not-false}
 use lib.ListN.{length}
 use Rattle.sound.specs.Sound.{lengthsFit}
+use Rattle.sound.proofs.Samples.{fits}
 use Rattle.superframe.specs.State.{stateInRange}
 use Rattle.superframe.specs.Take.{takeNumber, besideWith, refusedWith}
 use Rattle.superframe.specs.declared.state.Lost.{Lost}
@@ -84,7 +85,8 @@ returns-3 c =
     (lost .1) (lost .2)
 
 answered-requires : tie.Need-answered-requires
-answered-requires c κs = search needs
+unfolding start tested
+answered-requires c κs = fits _ _ _ (fit (tested (c .before .before .before .before .before .before))) .0
 
 same-length-3 : tie.Need-same-length-3
 same-length-3 c = search needs
