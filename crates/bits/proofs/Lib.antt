@@ -4,5 +4,6 @@ pub mod Every
 pub mod Digits
 pub mod Bits
 pub mod Ones
+pub mod Order
 pub mod Answer
 pub mod Unique

@@ -3,3 +3,4 @@ pub mod Digits
 pub mod Bits
 pub mod Answer
 pub mod Letters
+pub mod Order
