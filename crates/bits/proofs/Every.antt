@@ -2,6 +2,7 @@
 --     every-take                   one element more
 --     every-each, each-every       it passes exactly where it passes at each element
 --     every-fails                  one element at which it fails
+--     Missed, every-missed         where it does not pass, there is one
 --     every-tab                    a table, each of whose entries passes
 --     every-at                     a table's rule: one test that is computed over the whole table says it of each entry
 -- Assumes nothing.
@@ -48,6 +49,19 @@ module _ {A : Type 0} (f : A → Bool) where
 
   pub every-fails : (xs : List A) (i : ℕ) (d : A) → i < length xs → f (getD xs i d) ≡ false → every f xs ≡ false
   every-fails xs i d l t = either-way (every f xs) (λ u. absurd (true≢false (sym (every-each xs i d u l) ∙ t))) (λ u. u)
+
+  pub record Missed (xs : List A) (d : A) : Type 0 where
+    pub place : ℕ
+    pub there : place < length xs
+    pub fails : f (getD xs place d) ≡ false
+
+  pub every-missed : (xs : List A) (d : A) → every f xs ≡ false → Missed xs d
+  unfolding every
+  every-missed [] d e = absurd (true≢false e)
+  every-missed (x ∷ xs) d e =
+      either-way (f x)
+      (λ t. let m = every-missed xs d (rw t at e) in record { place = suc (m .place); there = suc-le-suc (m .there); fails = m .fails })
+      (λ t. record { place = 0; there = omega arith; fails = t })
 
   pub every-tab : (n : ℕ) (g : ℕ → A) → ((i : ℕ) → i < n → f (g i) ≡ true) → every f (tabulate n g) ≡ true
   unfolding tabulate every

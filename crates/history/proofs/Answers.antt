@@ -24,22 +24,13 @@ use Rattle.sound.specs.Sound.{lengthsFit}
 use Rattle.beside.specs.Beside.{numberAt, programmesOf, sixAndSync}
 use Rattle.superframe.specs.State.{serviceOf, stateInRange}
 use Rattle.superframe.specs.Take.{takeNumber, servedIn, besideWith, noProgrammes, refusedWith, takeAnswer}
+use Rattle.superframe.proofs.Refusals as of
+use Rattle.superframe.proofs.Serving.{taken-range}
 use Rattle.superframe.specs.declared.state.State.{State}
 use Rattle.superframe.specs.declared.taking.Taken.{Taken}
 use Rattle.history.specs.Calls.{Call, Accepted, LostIn}
 use Rattle.history.proofs.Carries.{sync-below, number-small}
 use Rattle.history.proofs.Ranges.{service-fact}
-
-number-is : (n : ℕ) (s : State) (sf : List ℕ) → takeAnswer n s sf .number ≡ n
-unfolding takeAnswer besideWith refusedWith
-number-is n s sf = either-way (eqb n 0) (λ t. rw t (sym (eqb-true n 0 t))) (λ t. rw t)
-
-number-in-range : (s : State) (sf : List ℕ) (samples : List ℤ) (marks : List ℕ) → takeNumber s sf samples marks ≡ 0 → stateInRange s ≡ true
-unfolding takeNumber
-number-in-range s sf samples marks e =
-    either-way (lengthsFit (length sf) (length samples) (length marks))
-    (λ t. either-way (stateInRange s) (λ u. u) (λ u. let z : takeNumber s sf samples marks ≡ 2 = rw (t, u) in absurd (omega arith)))
-    (λ t. let z : takeNumber s sf samples marks ≡ 1 = rw t in absurd (omega arith))
 
 -- ---- the service
 served-number : (s : State) (sf : List ℕ) → stateInRange s ≡ true → (servedIn s sf .number ≡ 0) ⊎ (servedIn s sf .number ≡ 7)
@@ -89,18 +80,18 @@ module _ (s : State) (k : Call s) where
   number = takeNumber s (k .bytes) (k .lent-samples) (k .lent-marks)
 
   pub numbered : number ≡ k .answer .number
-  numbered = sym (ap (λ (r : Taken). r .number) (k .took .answer) ∙ number-is number s (k .bytes))
+  numbered = of.numbered s (k .bytes) (k .lent-samples) (k .lent-marks) (k .answer) (k .samples) (k .marks) (k .took)
 
   pub answer-is : (n : ℕ) → k .answer .number ≡ n → k .answer ≡ takeAnswer n s (k .bytes)
   answer-is n z = k .took .answer ∙ ap (λ (n : ℕ). takeAnswer n s (k .bytes)) (numbered ∙ z)
 
   pub accepted-in-range : Accepted k → stateInRange s ≡ true
-  accepted-in-range z = number-in-range s (k .bytes) (k .lent-samples) (k .lent-marks) (numbered ∙ z)
+  accepted-in-range = taken-range s (k .bytes) (k .lent-samples) (k .lent-marks) (k .answer) (k .samples) (k .marks) (k .took)
 
   pub service-number : (k .answer .service ≡ 0) ⊎ (k .answer .service ≡ 7)
   service-number =
       rw (k .took .answer)
-      (answer-service number s (k .bytes) (λ z. number-in-range s (k .bytes) (k .lent-samples) (k .lent-marks) z))
+      (answer-service number s (k .bytes) (λ z. accepted-in-range (sym numbered ∙ z)))
 
   pub programme-number : (q : ℕ) → q < 16 → (getD (k .answer .programmes .numbers) q 0 ≡ 0) ⊎ (getD (k .answer .programmes .numbers) q 0 ≡ 5)
   programme-number q l = rw (k .took .answer) (answer-programme number s (k .bytes) q l)

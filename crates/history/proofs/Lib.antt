@@ -4,4 +4,5 @@ pub mod Ranges
 pub mod Answers
 pub mod Labels
 pub mod Ahead
+pub mod Served
 pub mod Repaired

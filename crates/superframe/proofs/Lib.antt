@@ -1,2 +1,4 @@
 pub mod Took
+pub mod Refusals
+pub mod Serving
 pub mod Unique

@@ -19,7 +19,7 @@ use Rattle.sound.specs.Sound.{samplesOf, marksOf, lengthsFit, fillNumber, Fille
 use Rattle.sound.proofs.Samples.{fits}
 use Rattle.tape.specs.declared.blocks.Counted.{Counted}
 use Rattle.superframe.specs.State.{stateInRange, lostState, lostWith}
-use Rattle.superframe.specs.Take.{takeNumber, besideWith, refusedWith, takeAnswer, Took}
+use Rattle.superframe.specs.Take.{takeNumber, besideWith, refusedWith, stateUnder, takeAnswer, Took}
 use Rattle.superframe.specs.declared.state.State.{State}
 use Rattle.superframe.specs.declared.taking.Taken.{Taken}
 
@@ -58,7 +58,7 @@ module _ (sf factors : List ℕ) (samples : List ℤ) (marks : List ℕ) (r : Co
       (t, f .sound ∙ rw e, f .marked ∙ rw e)
 
 module _ (s : State) (sf : List ℕ) (samples : List ℤ) (marks : List ℕ) (r : Taken) (samples' : List ℤ) (marks' : List ℕ) where
-  pub refused-took : (n : ℕ) → takeNumber s sf samples marks ≡ n → eqb n 0 ≡ false → r ≡ refusedWith n (cond (eqb n 3) (lostState s) s)
+  pub refused-took : (n : ℕ) → takeNumber s sf samples marks ≡ n → eqb n 0 ≡ false → r ≡ refusedWith n (stateUnder n s)
       → samples' ≡ samples → marks' ≡ marks → Took s sf samples marks r samples' marks'
   unfolding takeAnswer
   refused-took n e z q x m = record { answer = rw (e, z) q; sound = rw (e, z) x; marked = rw (e, z) m }

@@ -4,7 +4,8 @@
 --     besideWith s sf b     the answer where nothing is refused, with the readings counted as b
 --     noProgrammes          of a refused superframe: zeros
 --     refusedWith n s       number n, zeros, and a state
---     takeAnswer n s sf     the answer by its number: refused with 3 the state after one lost superframe, with 1 and 2 the state as given
+--     stateUnder n s        the state that comes back with a refusal: with 3 that after one lost superframe, with 1 and 2 the one given
+--     takeAnswer n s sf     the answer by its number
 --     Took s sf samples marks r samples' marks'     THE PROMISE: the answer, and what the two lent lists then hold; refused, they are untouched
 use Prim.Native.Nat.{ℕ}
 use mathlib.Core.Path.{_≡_}
@@ -65,8 +66,11 @@ refusedWith n s =
       labels = replicate 256 0;
     }
 
+abbrev pub stateUnder : ℕ → State → State
+stateUnder n s = cond (eqb n 3) (lostState s) s
+
 unfoldable pub takeAnswer : ℕ → State → List ℕ → Taken
-takeAnswer n s sf = cond (eqb n 0) (besideWith s sf (blocksOf sf)) (refusedWith n (cond (eqb n 3) (lostState s) s))
+takeAnswer n s sf = cond (eqb n 0) (besideWith s sf (blocksOf sf)) (refusedWith n (stateUnder n s))
 
 pub record Took (s : State) (sf : List ℕ) (samples : List ℤ) (marks : List ℕ) (r : Taken) (samples' : List ℤ) (marks' : List ℕ) : Type 0 where
   pub answer : r ≡ takeAnswer (takeNumber s sf samples marks) s sf

@@ -1,0 +1,63 @@
+-- Whose extra bits, and what number 5 does, in document 01's numbers ("The block", "Scale words", "Numbers given").
+--     extra-stands          bit f of programme q's 64 is the extra bit of the block that carries it: "the first extra bit belongs to the first programme, the
+--                           second to the second"
+--     five-missing          "inside a superframe that programme's factors are missing", both of them
+--     factor-there          and where there is no number they are those that the extra bits read as
+-- Assumes nothing.
+use mathlib.Core.Path.{_≡_, sym, ap, ap₂, _∙_}
+use mathlib.Core.Logic.{_≢_}
+use mathlib.Core.List.{List}
+use Prim.Native.Nat.{ℕ, _+_, _-_, _*_, _/_, _%_, _<_, _≤_}
+use native.Mathlib.Omega.{arith}
+use borrow.Author.Tests.{eq-eqb, ne-eqb}
+use lib.ListN.{getD}
+use Rattle.bits.proofs.Table.{getD-tab}
+use Rattle.scale.specs.declared.Extra.{Extra}
+use Rattle.frame.specs.Read.{blockOf}
+use Rattle.tape.specs.Tape.{frameAt, blockIn}
+use Rattle.tape.specs.Document.{entry, channelOf, Carries, a-first, a-second, b-first, b-second}
+use Rattle.tape.proofs.Carried.{carried}
+use Rattle.beside.specs.Beside.{extraBit, extraBits, extraOf, factorOr, sideOf, factorRead, numberAt, programmesOf}
+use Rattle.beside.specs.Document.{missing, extraNumber}
+
+-- ---- extra bits
+module _ (sf : List ℕ) (f b : ℕ) (k : 1 ≤ f) (l : f ≤ 64) (m : 1 ≤ b) (u : b ≤ 4) where
+  from : (q frame place : ℕ) → Carries f b q frame place → 75 + (q - 1) % 2 ≡ extraNumber place - 1
+      → entry (extraBits sf (q - 1)) f 0 ≡ entry (blockOf (frameAt sf (frame - 1)) (b - 1)) (extraNumber place) 0
+  unfolding extraBits extraBit
+  from q frame place h e =
+      getD-tab 64 (extraBit sf (q - 1)) (f - 1) 0 (omega arith)
+      ∙ ap₂ (λ (block : List ℕ) (j : ℕ). getD block j 0) (carried sf f b k m u q frame place h) e
+
+  pub extra-stands : (q frame place : ℕ) → Carries f b q frame place
+      → entry (extraBits sf (q - 1)) f 0 ≡ entry (blockOf (frameAt sf (frame - 1)) (b - 1)) (extraNumber place) 0
+  extra-stands q frame place a-first = from (2 * b - 1) f 1 a-first (omega arith)
+  extra-stands q frame place a-second = from (2 * b) f 2 a-second (omega arith)
+  extra-stands q frame place b-first = from (2 * b + 7) (64 + f) 1 b-first (omega arith)
+  extra-stands q frame place b-second = from (2 * b + 8) (64 + f) 2 b-second (omega arith)
+
+-- ---- number 5
+module _ (sf : List ℕ) (q side : ℕ) (k : 1 ≤ q) (l : q ≤ 16) (m : 1 ≤ side) (u : side ≤ 2) where
+  abbrev channel : ℕ
+  channel = channelOf q side - 1
+
+  factor-is : entry (programmesOf sf .factors) (channelOf q side) 0 ≡ factorRead sf channel
+  unfolding programmesOf
+  factor-is = getD-tab 32 (factorRead sf) channel 0 (omega arith)
+
+  number-is : entry (programmesOf sf .numbers) q 0 ≡ extraOf sf (q - 1) .number
+  unfolding programmesOf
+  number-is = getD-tab 16 (numberAt sf) (q - 1) 0 (omega arith)
+
+  programme : channel / 2 ≡ q - 1
+  programme = omega arith
+
+  pub five-missing : entry (programmesOf sf .numbers) q 0 ≢ 0 → entry (programmesOf sf .factors) (channelOf q side) 0 ≡ missing
+  unfolding factorRead factorOr
+  five-missing h = factor-is ∙ rw (programme, ne-eqb (extraOf sf (q - 1) .number) 0 (λ e. h (number-is ∙ e)))
+
+  pub factor-there : entry (programmesOf sf .numbers) q 0 ≡ 0 → entry (programmesOf sf .factors) (channelOf q side) 0 ≡ sideOf (extraOf sf (q - 1)) (side - 1)
+  unfolding factorRead factorOr
+  factor-there h =
+      let which : channel % 2 ≡ side - 1 = omega arith in
+      factor-is ∙ rw (programme, which, eq-eqb (extraOf sf (q - 1) .number) 0 (sym number-is ∙ h))

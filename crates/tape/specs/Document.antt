@@ -1,0 +1,36 @@
+-- Sentences of document 01 on a superframe's blocks, with its own numbers, which count from 1: theorems hold the definitions to them.
+--     entry l n d                   entry n of a list
+--     channelOf q side              the channel of programme q, side 1 the left and 2 the right: "channels of programmes 1 to 16 in order, left first"
+--     Carries f b q frame place     "Block b of A carries stereo programmes 2b-1 and 2b; block b of B carries 2b+7 and 2b+8": block b of main frame `frame` of
+--                                   the 128 carries programme q in frame number f of the 64, as the first (place 1) or the second (place 2) of its two
+--     IsMended r                    a reading that is mended, with whatever number of places
+--     Marked r m                    "0 clean, 1 mended, 2 block bad": mark m says so of reading r, and of no other
+use Prim.Native.Nat.{ℕ, _+_, _-_, _*_}
+use mathlib.Core.Path.{_≡_}
+use mathlib.Core.List.{List}
+use lib.ListN.{getD}
+use Rattle.block.specs.Read.{Said, clean, mended, bad}
+
+abbrev pub entry : {A : Type 0} → List A → ℕ → A → A
+entry l n d = getD l (n - 1) d
+
+abbrev pub channelOf : ℕ → ℕ → ℕ
+channelOf q side = 2 * (q - 1) + side
+
+pub data Carries (f b : ℕ) : ℕ → ℕ → ℕ → Type 0 where
+  a-first : Carries f b (2 * b - 1) f 1
+  a-second : Carries f b (2 * b) f 2
+  b-first : Carries f b (2 * b + 7) (64 + f) 1
+  b-second : Carries f b (2 * b + 8) (64 + f) 2
+
+pub record IsMended (r : Said) : Type 0 where
+  pub places : ℕ
+  pub is : r ≡ mended places
+
+pub record Marked (r : Said) (m : ℕ) : Type 0 where
+  pub zero-clean : m ≡ 0 → r ≡ clean
+  pub clean-zero : r ≡ clean → m ≡ 0
+  pub one-mended : m ≡ 1 → IsMended r
+  pub mended-one : IsMended r → m ≡ 1
+  pub two-bad : m ≡ 2 → r ≡ bad
+  pub bad-two : r ≡ bad → m ≡ 2
