@@ -4,3 +4,4 @@ pub mod Sync
 pub mod Places
 pub mod Reading
 pub mod Unique
+pub mod Printed

@@ -1,3 +1,4 @@
 pub mod Header
 pub mod Run
 pub mod Unique
+pub mod Printed
