@@ -6,8 +6,8 @@ use mathlib.Core.Path.{_≡_, refl, ap, _∙_}
 use mathlib.Core.List.{[], _∷_, _++_}
 use Rattle.bits.specs.Digits.{value, digits}
 use Rattle.bits.specs.Bits.{ones}
-use Rattle.bits.specs.Table.{tabulate}
-use Rattle.bits.specs.Printed.{row, All}
+use Rattle.bits.specs.Table.{tabulate, All}
+use Rattle.bits.specs.Printed.{row}
 use Rattle.remainder.specs.Polynomial.{zeros}
 use Rattle.code.specs.Words.{encode}
 use Rattle.code.proofs.Vectors.{none, bit-44, bit-43}

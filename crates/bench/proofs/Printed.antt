@@ -1,7 +1,8 @@
 -- All that is printed holds: one statement over the table. Each crate's rows are computed where its definitions stand.
 --     everything-printed     THE STATEMENT
 -- Assumes nothing.
-use Rattle.bits.specs.Printed.{Same, All}
+use Rattle.bits.specs.Table.{All}
+use Rattle.bits.specs.Printed.{Same}
 use Rattle.bits.proofs.Printed as Bits
 use Rattle.programme.proofs.Printed as Programme
 use Rattle.reel.proofs.Printed as Reel

@@ -9,11 +9,12 @@ use mathlib.Core.List.{List, [], _∷_}
 use Prim.Native.Nat.{ℕ}
 use lib.Dec.{eqb}
 use borrow.Author.Tests.{eqb-true}
-use Rattle.bits.specs.Table.{tabulate, every}
+use Rattle.bits.specs.Table.{tabulate, every, All}
 use Rattle.bits.specs.Digits.{value, digits}
 use Rattle.bits.specs.Bits.{bitAt, bitsOf, eightAt, byteAt, bytesOf}
-use Rattle.bits.specs.Printed.{row, nibble, nibbles, paired, Row, Same, All, printedRows}
+use Rattle.bits.specs.Printed.{row, nibble, nibbles, paired, Row, Same, printedRows}
 use Rattle.bits.proofs.Tests.{both-true}
+use Rattle.bits.proofs.Every.{every-all}
 
 unfoldable pub agrees : List ℕ → List ℕ → Bool
 agrees [] [] = true
@@ -32,11 +33,7 @@ abbrev pub same-test : Row → Bool
 same-test r = agrees (r .said) (r .print)
 
 pub rows-hold : (rows : List Row) → every same-test rows ≡ true → All Same rows
-unfolding every All
-rows-hold [] e = tt
-rows-hold (r ∷ rows) e =
-    let both = both-true (same-test r) (every same-test rows) e in
-    (agrees-same (r .said) (r .print) (both .0), rows-hold rows (both .1))
+rows-hold rows e = every-all same-test Same (λ r t. agrees-same (r .said) (r .print) t) rows e
 
 pub printed-holds : All Same printedRows
 unfolding printedRows row nibble nibbles paired every tabulate agrees value digits bitAt bitsOf eightAt byteAt bytesOf

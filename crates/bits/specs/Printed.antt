@@ -4,7 +4,6 @@
 --     answered a        an answer as its number and its values
 --     Row, _prints_     what a definition says, and what is printed
 --     Same r            that they are the same
---     All P l           P of each entry of a table
 --     printedRows       what is printed of bits and bytes: "In a byte the first bit sent is the most significant"
 use Prim.Native.Nat.{ℕ, _+_, _-_, _*_}
 use Prim.Native.Char.{Char, code}
@@ -48,10 +47,6 @@ said prints print = record { said = said; print = print }
 
 abbrev pub Same : Row → Type 0
 Same r = r .said ≡ r .print
-
-unfoldable pub All : {A : Type 0} → (A → Type 0) → List A → Type 0
-All P [] = Unit {0}
-All P (x ∷ l) = P x × All P l
 
 unfoldable pub printedRows : List Row
 printedRows = (bitsOf (hex "80 E2 01") prints row "100000001110001000000001") ∷ (bytesOf (row "100000001110001000000001") prints hex "80 E2 01") ∷ []

@@ -5,3 +5,4 @@ pub mod Places
 pub mod Reading
 pub mod Unique
 pub mod Printed
+pub mod Order

@@ -2,10 +2,10 @@
 --     printed-holds     THE STATEMENT
 -- Assumes nothing.
 use mathlib.Core.Path.{refl}
-use Rattle.bits.specs.Table.{tabulate, every}
+use Rattle.bits.specs.Table.{tabulate, every, All}
 use Rattle.bits.specs.Digits.{digits}
 use Rattle.bits.specs.Bits.{bitAt, ones}
-use Rattle.bits.specs.Printed.{row, nibble, nibbles, paired, Same, All}
+use Rattle.bits.specs.Printed.{row, nibble, nibbles, paired, Same}
 use Rattle.bits.proofs.Printed.{agrees, rows-hold}
 use Rattle.remainder.specs.Polynomial.{_⊕_}
 use Rattle.code.specs.Words.{distance}

@@ -3,3 +3,4 @@ pub mod Back
 pub mod Burst
 pub mod Unique
 pub mod Printed
+pub mod Order

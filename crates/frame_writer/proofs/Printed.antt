@@ -2,10 +2,10 @@
 --     printed-holds     THE STATEMENT
 -- Assumes nothing.
 use mathlib.Core.Path.{refl}
-use Rattle.bits.specs.Table.{tabulate, every}
+use Rattle.bits.specs.Table.{tabulate, every, All}
 use Rattle.bits.specs.Digits.{value}
 use Rattle.bits.specs.Bits.{allBelow, eightAt, byteAt, bytesOf}
-use Rattle.bits.specs.Printed.{nibble, nibbles, paired, Same, All}
+use Rattle.bits.specs.Printed.{nibble, nibbles, paired, Same}
 use Rattle.bits.proofs.Printed.{agrees, rows-hold}
 use Rattle.frame.specs.Frame.{syncWord, serviceIn, interleave, frameBits, frameBytes}
 use Rattle.frame_writer.specs.Write.{goodValues, writeNumber}

@@ -2,11 +2,11 @@
 --     printed-holds     THE STATEMENT
 -- Assumes nothing.
 use mathlib.Core.Path.{refl}
-use Rattle.bits.specs.Table.{every}
+use Rattle.bits.specs.Table.{every, All}
 use Rattle.bits.specs.Digits.{value, digits}
 use Rattle.bits.specs.Bits.{ones}
 use Rattle.bits.specs.Letters.{letters}
-use Rattle.bits.specs.Printed.{row, nibble, nibbles, paired, Same, All}
+use Rattle.bits.specs.Printed.{row, nibble, nibbles, paired, Same}
 use Rattle.bits.proofs.Printed.{agrees, rows-hold}
 use Rattle.programme.specs.Byte.{kind, music, mode, even, made, readByte, writeByte}
 use Rattle.programme.specs.Names.{names, padded, nameOf, nameFor}

@@ -6,10 +6,10 @@ use mathlib.Core.Path.{_≡_, refl}
 use mathlib.Core.List.{List, [], _∷_}
 use Prim.Native.Nat.{ℕ}
 use lib.ListN.{length}
-use Rattle.bits.specs.Table.{tabulate, every}
+use Rattle.bits.specs.Table.{tabulate, every, All}
 use Rattle.bits.specs.Digits.{value}
 use Rattle.bits.specs.Answer.{accepted, refused}
-use Rattle.bits.specs.Printed.{nibble, nibbles, paired, Same, All}
+use Rattle.bits.specs.Printed.{nibble, nibbles, paired, Same}
 use Rattle.bits.proofs.Printed.{agrees, rows-hold}
 use Rattle.reel.specs.Header.{numberAt, goodHeader, headerOf}
 use Rattle.reel.specs.Run.{isRun, runOf, partNumber}

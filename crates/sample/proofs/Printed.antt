@@ -2,8 +2,8 @@
 --     printed-holds     THE STATEMENT
 -- Assumes nothing.
 use mathlib.Core.Path.{refl}
-use Rattle.bits.specs.Table.{every}
-use Rattle.bits.specs.Printed.{Same, All}
+use Rattle.bits.specs.Table.{every, All}
+use Rattle.bits.specs.Printed.{Same}
 use Rattle.bits.proofs.Printed.{agrees, rows-hold}
 use Rattle.sample.specs.Sample.{fits, isCode, codeAnswer, sampleAnswer}
 use Rattle.sample.specs.Factor.{factorAnswer}

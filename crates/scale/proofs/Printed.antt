@@ -2,10 +2,10 @@
 --     printed-holds     THE STATEMENT
 -- Assumes nothing.
 use mathlib.Core.Path.{refl}
-use Rattle.bits.specs.Table.{tabulate, every}
+use Rattle.bits.specs.Table.{tabulate, every, All}
 use Rattle.bits.specs.Digits.{value, digits}
 use Rattle.bits.specs.Bits.{ones, allBelow}
-use Rattle.bits.specs.Printed.{row, Same, All}
+use Rattle.bits.specs.Printed.{row, Same}
 use Rattle.bits.proofs.Printed.{agrees, rows-hold}
 use Rattle.remainder.specs.Polynomial.{_⊕_, times}
 use Rattle.remainder.specs.Remainder.{takeOff, step, divide, remainder, checkBits}

@@ -2,9 +2,9 @@
 --     printed-holds     THE STATEMENT
 -- Assumes nothing.
 use mathlib.Core.Path.{refl}
-use Rattle.bits.specs.Table.{every}
+use Rattle.bits.specs.Table.{every, All}
 use Rattle.bits.specs.Bits.{allBelow}
-use Rattle.bits.specs.Printed.{row, Same, All}
+use Rattle.bits.specs.Printed.{row, Same}
 use Rattle.bits.proofs.Printed.{agrees, rows-hold}
 use Rattle.service_sync.specs.Sync.{agree, kindOf}
 use Rattle.service.specs.Service.{inRange, accepts, refusedService, served}

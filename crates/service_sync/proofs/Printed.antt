@@ -2,8 +2,8 @@
 --     printed-holds     THE STATEMENT
 -- Assumes nothing.
 use mathlib.Core.Path.{refl}
-use Rattle.bits.specs.Table.{every}
-use Rattle.bits.specs.Printed.{row, Same, All}
+use Rattle.bits.specs.Table.{every, All}
+use Rattle.bits.specs.Printed.{row, Same}
 use Rattle.bits.proofs.Printed.{agrees, rows-hold}
 use Rattle.service_sync.specs.Sync.{agree, kindOf, isOpen}
 use Rattle.service_sync.specs.Printed.{printedRows}
