@@ -8,7 +8,6 @@
 use mathlib.Core.List.{List, [], _∷_, _++_}
 use Prim.Native.Nat.{ℕ}
 use Prim.Native.String.{String}
-use lib.ListN.{replicate}
 use Rattle.bits.specs.Printed.{row, answered, Row, _prints_}
 use Rattle.scale.specs.Word.{writeAnswer}
 use Rattle.scale.specs.Reading.{readAnswer}
@@ -41,7 +40,9 @@ printedRows =
     ∷ (heard (thrice "11010111010001") prints 5 ∷ [])
     -- of the three copies one has all its bits wrong
     ∷ (heard (row "11111000101110" ++ (row "00000111010001" ++ row "00000111010001")) prints 0 ∷ 0 ∷ 1 ∷ [])
-    ∷ (heard (replicate 41 0 ++ (2 ∷ [])) prints 2 ∷ [])
+    -- an entry that is no bit, and 2 goes before 5
+    ∷ (heard (thrice "00000111010002") prints 2 ∷ [])
+    ∷ (heard (thrice "11010111010002") prints 2 ∷ [])
     -- bits 43 to 64, the first of them the highest; the word comes with number 5 too
     ∷ (behind (thrice "00000111010001") "0000000000000000000001" prints 0 ∷ 0 ∷ 1 ∷ 1 ∷ [])
     ∷ (behind (thrice "00000111010001") "1000000000000000000000" prints 0 ∷ 0 ∷ 1 ∷ 2_097_152 ∷ [])
