@@ -6,7 +6,8 @@ use mathlib.Core.Path.{_≡_, refl, ap, _∙_}
 use mathlib.Core.List.{[], _∷_, _++_}
 use Rattle.bits.specs.Digits.{value, digits}
 use Rattle.bits.specs.Bits.{ones}
-use Rattle.bits.specs.Table.{tabulate}
+use Rattle.bits.specs.Table.{tabulate, All}
+use Rattle.bits.specs.Printed.{row}
 use Rattle.remainder.specs.Polynomial.{zeros}
 use Rattle.code.specs.Words.{encode}
 use Rattle.code.proofs.Vectors.{none, bit-44, bit-43}
@@ -15,7 +16,7 @@ use Rattle.reading.proofs.Vectors.{all-ones, three, two-cleared}
 use Rattle.sample.specs.Sample.{fits, isCode, codeOf, sampleOf, codeAnswer, sampleAnswer}
 use Rattle.scale.proofs.Bench.{factors-01, factors-02}
 use Rattle.programme.specs.Byte.{made, writeByte}
-use Rattle.bench.specs.Cases.{row, isIn, ones-at, withoutOnes, cleared, Holds, bench, All}
+use Rattle.bench.specs.Cases.{isIn, ones-at, withoutOnes, cleared, Holds, bench}
 
 -- the word of sound bit 44 with its first two ones cleared, one of them a sound bit and one a check bit
 cleared-is : cleared ≡ zeros 44 ++ (0 ∷ 0 ∷ 0 ∷ 0 ∷ 0 ∷ 0 ∷ 0 ∷ 0 ∷ 1 ∷ 1 ∷ 1 ∷ 0 ∷ 1 ∷ 0 ∷ 1 ∷ 0 ∷ 0 ∷ 0 ∷ 1 ∷ [])

@@ -1,5 +1,4 @@
 -- The bench cases of document 01 that it marks with a star, in one table.
---     row text          a row of bits as the document prints it
 --     ones-at n ks      n bits, with ones in the places ks, counted from 1 as the document does
 --     isIn k ks         1 where k is one of ks, else 0
 --     withoutOnes n w   the word w with its first n ones cleared
@@ -7,10 +6,7 @@
 --     Holds c           that it is so, of the definitions that the promises cite
 --     wordOf44, cleared the word of sound bit 44, and the same with the first two of its eight ones cleared
 --     bench             THE TABLE
---     All P l           P of each entry of a table
-use Prim.Native.Nat.{ℕ, zero, suc, _+_, _-_}
-use Prim.Native.Char.{Char, code}
-use Prim.Native.String.{String, [] as end, _∷_ as _then_}
+use Prim.Native.Nat.{ℕ, zero, suc, _+_}
 use mathlib.Core.Path.{_≡_}
 use mathlib.Core.Bool.{cond}
 use mathlib.Core.List.{List, [], _∷_}
@@ -20,6 +16,7 @@ use lib.ListN.{replicate}
 use Rattle.bits.specs.Digits.{value}
 use Rattle.bits.specs.Answer.{accepted}
 use Rattle.bits.specs.Table.{tabulate}
+use Rattle.bits.specs.Printed.{row}
 use Rattle.remainder.specs.Remainder.{checkBits}
 use Rattle.code.specs.Generators.{blockGenerator}
 use Rattle.reading.specs.Reading.{Reading, mended, bad}
@@ -28,10 +25,6 @@ use Rattle.reading.specs.Demand.{sent}
 use Rattle.sample.specs.Sample.{codeAnswer, sampleAnswer}
 use Rattle.scale.specs.Word.{scaleWord}
 use Rattle.programme.specs.Byte.{writeByte}
-
-unfoldable pub row : String → List ℕ
-row end = []
-row (c then text) = (code c - code "0") ∷ row text
 
 unfoldable pub isIn : ℕ → List ℕ → ℕ
 isIn k [] = 0
@@ -91,7 +84,3 @@ bench =
     ∷ writes 10 1 1 (row "10101010")
     ∷ writes 0 0 1 (row "00000011")
     ∷ []
-
-unfoldable pub All : {A : Type 0} → (A → Type 0) → List A → Type 0
-All P [] = Unit {0}
-All P (x ∷ l) = P x × All P l

@@ -1,6 +1,7 @@
 -- Laws of a test over a whole list.
 --     every-take                   one element more
 --     every-each, each-every       it passes exactly where it passes at each element
+--     every-all, all-every         the same, said of a list and not of its places
 --     every-fails                  one element at which it fails
 --     Missed, every-missed         where it does not pass, there is one
 --     every-tab                    a table, each of whose entries passes
@@ -16,7 +17,7 @@ use native.Mathlib.Omega.{arith}
 use lib.ListN.{length, getD, take}
 use lib.Seq.{take-suc}
 use lib.Dec.{T}
-use Rattle.bits.specs.Table.{tabulate, every}
+use Rattle.bits.specs.Table.{tabulate, every, All}
 use Rattle.bits.proofs.Tests.{either-way, both-true}
 
 head : (a b : Bool) → T (a && b) → T a
@@ -46,6 +47,16 @@ module _ {A : Type 0} (f : A → Bool) where
   unfolding every
   each-every [] d h = refl
   each-every (x ∷ xs) d h = rw (h 0 (omega arith)) (each-every xs d (λ i l. h (suc i) (suc-le-suc l)))
+
+  pub every-all : (P : A → Type 0) → ((x : A) → f x ≡ true → P x) → (xs : List A) → every f xs ≡ true → All P xs
+  unfolding every All
+  every-all P h [] t = tt
+  every-all P h (x ∷ xs) t = let both = both-true (f x) (every f xs) t in (h x (both .0), every-all P h xs (both .1))
+
+  pub all-every : (P : A → Type 0) → ((x : A) → P x → f x ≡ true) → (xs : List A) → All P xs → every f xs ≡ true
+  unfolding every All
+  all-every P h [] t = refl
+  all-every P h (x ∷ xs) t = rw (h x (t .0)) (all-every P h xs (t .1))
 
   pub every-fails : (xs : List A) (i : ℕ) (d : A) → i < length xs → f (getD xs i d) ≡ false → every f xs ≡ false
   every-fails xs i d l t = either-way (every f xs) (λ u. absurd (true≢false (sym (every-each xs i d u l) ∙ t))) (λ u. u)

@@ -4,6 +4,7 @@ pub mod Every
 pub mod Digits
 pub mod Bits
 pub mod Ones
+pub mod Printed
 pub mod Order
 pub mod Answer
 pub mod Unique

@@ -2,6 +2,7 @@
 --     no-fault              where nothing is refused there is none of the faults
 --     Tells fault clear     a test that passes exactly where a fault is not there
 --     tells-nothing         the test of a fault that cannot be
+--     tells-not             the test of something that is not so
 --     tells-length          the test of a length that is another than n
 --     tells-false           the test of something whose failing is the fault
 --     in-order              three tests, one behind the other, give the numbers in document 01's order
@@ -15,7 +16,7 @@ use mathlib.Core.Logic.{_≢_}
 use Prim.Native.Nat.{ℕ}
 use native.Mathlib.Omega.{arith}
 use lib.Dec.{eqb}
-use borrow.Author.Tests.{eqb-true, eqb-false}
+use borrow.Author.Tests.{eqb-true, eq-eqb}
 use Rattle.bits.specs.Order.{Ordered}
 
 module _ {one two three : Type 0} {n : ℕ} (o : Ordered one two three n) (zero : n ≡ 0) where
@@ -38,8 +39,11 @@ pub record Tells (fault : Type 0) (clear : Bool) : Type 0 where
 pub tells-nothing : Tells ⊥ true
 tells-nothing = record { there = λ e. absurd (true≢false e); away = λ e f. f }
 
+pub tells-not : {so : Type 0} (b : Bool) → (b ≡ true → so) → (so → b ≡ true) → Tells (so → ⊥) b
+tells-not b h k = record { there = λ e s. true≢false (sym (k s) ∙ e); away = λ e f. f (h e) }
+
 pub tells-length : (l n : ℕ) → Tells (l ≢ n) (eqb l n)
-tells-length l n = record { there = λ e. eqb-false l n e; away = λ e f. f (eqb-true l n e) }
+tells-length l n = tells-not (eqb l n) (eqb-true l n) (eq-eqb l n)
 
 pub tells-false : (b : Bool) → Tells (b ≡ false) b
 tells-false b = record { there = λ e. e; away = λ e f. true≢false (sym e ∙ f) }

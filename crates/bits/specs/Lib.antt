@@ -4,3 +4,4 @@ pub mod Bits
 pub mod Answer
 pub mod Letters
 pub mod Order
+pub mod Printed

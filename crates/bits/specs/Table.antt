@@ -1,6 +1,7 @@
 -- Lists given by a rule.
 --     tabulate n f      f 0, f 1, .., f (n - 1)
 --     every f l         whether a test passes at each element of a list
+--     All P l           P of each element of a list
 -- A table grows at its end, as a loop that fills a list from the front does.
 use mathlib.Core.Bool.{Bool, true, _&&_}
 use mathlib.Core.List.{List, [], _∷_, _++_}
@@ -13,3 +14,7 @@ tabulate (suc n) f = tabulate n f ++ (f n ∷ [])
 unfoldable pub every : {A : Type 0} → (A → Bool) → List A → Bool
 every f [] = true
 every f (x ∷ l) = f x && every f l
+
+unfoldable pub All : {A : Type 0} → (A → Type 0) → List A → Type 0
+All P [] = Unit {0}
+All P (x ∷ l) = P x × All P l

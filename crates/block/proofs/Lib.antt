@@ -3,3 +3,4 @@ pub mod Places
 pub mod Answered
 pub mod Demand
 pub mod Unique
+pub mod Printed

@@ -1,3 +1,4 @@
 pub mod Layout
 pub mod Read
 pub mod Demand
+pub mod Printed

@@ -4,3 +4,5 @@ pub mod Sync
 pub mod Places
 pub mod Reading
 pub mod Unique
+pub mod Printed
+pub mod Order

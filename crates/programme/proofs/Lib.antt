@@ -1,3 +1,4 @@
 pub mod Byte
 pub mod Names
 pub mod Unique
+pub mod Printed

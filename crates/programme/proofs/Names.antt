@@ -5,11 +5,10 @@
 -- Assumes nothing.
 use mathlib.Core.Path.{_≡_, _∙_}
 use mathlib.Core.List.{List, map}
-use Prim.Native.Nat.{ℕ, _-_, _<_, _≤_}
-use Prim.Native.Char.{code}
+use Prim.Native.Nat.{ℕ, _<_, _≤_}
 use native.Mathlib.Omega.{arith}
 use lib.Dec.{T, leb, leb→le}
-use lib.ListN.{length, getD, replicate, length-append, length-replicate, List·getD-map}
+use lib.ListN.{length, getD, length-append, length-replicate, List·getD-map}
 use Rattle.bits.specs.Table.{every}
 use Rattle.bits.proofs.Table.{getD-within}
 use Rattle.bits.proofs.Every.{every-at}
@@ -30,7 +29,4 @@ word-short t h = leb→le (length (letters (getD names t ""))) 8 (every-at (λ t
 
 pub name-eight : (t : ℕ) → t < 16 → length (nameOf t) ≡ 8
 unfolding nameOf padded
-name-eight t h =
-    let word : List ℕ = letters (getD names t "") in
-    let short : length word ≤ 8 = word-short t h in
-    length-append word (replicate (8 - length word) (code " ")) ∙ rw (length-replicate (8 - length word) (code " ")) (omega arith)
+name-eight t h = let short : length (letters (getD names t "")) ≤ 8 = word-short t h in simp (length-append, length-replicate) (omega arith)

@@ -1,2 +1,3 @@
 pub mod Byte
 pub mod Names
+pub mod Printed

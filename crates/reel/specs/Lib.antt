@@ -1,2 +1,3 @@
 pub mod Header
 pub mod Run
+pub mod Printed

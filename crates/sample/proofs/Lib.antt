@@ -5,3 +5,4 @@ pub mod Patterns
 pub mod Unused
 pub mod Bench
 pub mod Unique
+pub mod Printed

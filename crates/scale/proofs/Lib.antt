@@ -4,3 +4,4 @@ pub mod Nearest
 pub mod Scale
 pub mod Bench
 pub mod Unique
+pub mod Printed

@@ -1,3 +1,4 @@
 pub mod Word
 pub mod Reading
 pub mod Extra
+pub mod Printed

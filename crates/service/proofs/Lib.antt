@@ -3,3 +3,4 @@ pub mod Machine
 pub mod Progress
 pub mod Labels
 pub mod Clean
+pub mod Printed

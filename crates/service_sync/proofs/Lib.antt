@@ -1,2 +1,3 @@
 pub mod Syncs
 pub mod Unique
+pub mod Printed

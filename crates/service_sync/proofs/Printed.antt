@@ -1,0 +1,13 @@
+-- The printed rows hold: one statement over the table.
+--     printed-holds     THE STATEMENT
+-- Assumes nothing.
+use mathlib.Core.Path.{refl}
+use Rattle.bits.specs.Table.{every, All}
+use Rattle.bits.specs.Printed.{row, Same}
+use Rattle.bits.proofs.Printed.{agrees, rows-hold}
+use Rattle.service_sync.specs.Sync.{agree, kindOf, isOpen}
+use Rattle.service_sync.specs.Printed.{printedRows}
+
+pub printed-holds : All Same printedRows
+unfolding printedRows row every agrees agree kindOf isOpen
+printed-holds = rows-hold printedRows refl
