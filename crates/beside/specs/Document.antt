@@ -17,9 +17,17 @@ missing = 8
 abbrev pub extraNumber : ℕ → ℕ
 extraNumber place = 75 + place
 
-pub data ScaleBit (q : ℕ) : ℕ → Type 0 where
-  scale-bit : (f b frame place : ℕ) → 1 ≤ f → f ≤ 42 → 1 ≤ b → b ≤ 4 → Carries f b q frame place
-      → ScaleBit q (320 * (frame - 1) + placeOf (b - 1) (extraNumber place - 1))
+pub record ScaleBit (q k : ℕ) : Type 0 where
+  pub f : ℕ
+  pub b : ℕ
+  pub frame : ℕ
+  pub place : ℕ
+  pub first : 1 ≤ f
+  pub last : f ≤ 42
+  pub low : 1 ≤ b
+  pub high : b ≤ 4
+  pub carries : Carries f b q frame place
+  pub at : k ≡ 320 * (frame - 1) + placeOf (b - 1) (extraNumber place - 1)
 
 pub record OnlyScale (q : ℕ) (sf sf' : List ℕ) : Type 0 where
   pub size : length sf ≡ 5120

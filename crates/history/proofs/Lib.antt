@@ -5,4 +5,6 @@ pub mod Answers
 pub mod Labels
 pub mod Ahead
 pub mod Served
+pub mod Same
+pub mod OneScale
 pub mod Repaired

@@ -35,36 +35,7 @@ use Rattle.sound.specs.Sound.{soundAt, markWith, codeIn, sampleAt, markAt}
 use Rattle.history.specs.Calls.{SentIn}
 use Rattle.tape.proofs.Tape.{reading-there}
 use Rattle.sound.proofs.Samples.{code-there}
-
--- two blocks with the same first 44 bits and the same last 14 have the same codes
-module _ (x y : List ℕ) (size : length x ≡ 77) (size' : length y ≡ 77) (front : take 44 x ≡ take 44 y) (back : drop 63 x ≡ drop 63 y) where
-  early : (p : ℕ) → p < 44 → getD x p 0 ≡ getD y p 0
-  early p h = sym (getD-take 44 x p 0 h) ∙ ap (λ (l : List ℕ). getD l p 0) front ∙ getD-take 44 y p 0 h
-
-  late : (p : ℕ) → 63 ≤ p → getD x p 0 ≡ getD y p 0
-  late p h =
-      let at : 63 + (p - 63) ≡ p = omega arith in
-      ap (λ (n : ℕ). getD x n 0) (sym at)
-      ∙ sym (getD-drop 63 x (p - 63) 0) ∙ ap (λ (l : List ℕ). getD l (p - 63) 0) back ∙ getD-drop 63 y (p - 63) 0
-      ∙ ap (λ (n : ℕ). getD y n 0) at
-
-  same-place : (c k : ℕ) → c < 4 → k < 14 → getD x (placeOf c k) 0 ≡ getD y (placeOf c k) 0
-  unfolding placeOf
-  same-place c k h l =
-      either-way (ltb k 11)
-      (λ t. let u : k < 11 = ltb-true k 11 t in rw t (early (11 * c + k) (omega arith)))
-      (λ t. let u : 11 ≤ k = ltb-false k 11 t in rw t (late (52 + 3 * c + k) (omega arith)))
-
-  same-code : (c : ℕ) → c < 4 → codeAt x c ≡ codeAt y c
-  unfolding codeAt
-  same-code c h =
-      let long = length-fourteen x size c h in
-      let long' = length-fourteen y size' c h in
-      ap bitsCode
-      (ext-getD 0 (fourteen x c) (fourteen y c) (long ∙ sym long')
-      (λ k l.
-      let within : k < 14 = omega arith in
-      sym (fourteen-at x size c h k within) ∙ same-place c k h within ∙ fourteen-at y size' c h k within))
+use Rattle.history.proofs.Same.{early, late, same-code}
 
 marked-with : (n : ℕ) → markOf (saidWith n) ≤ 1
 unfolding markOf saidWith
@@ -123,7 +94,8 @@ module _ (sf : List ℕ) (f p : ℕ) (codes : List ℤ) (extra mask : List ℕ) 
   pub code-back : (j : ℕ) → j < 4 → codeAt (handedOn (blockIn sf f p)) j ≡ getD codes j (pos 0)
   code-back j l =
       same-code (handedOn (blockIn sf f p)) written handed-size (length-block codes extra (h .four) ∙ omega (arith, h .two))
-      (front-back ∙ sym written-front) (rest-back ∙ sym written-rest) j l
+      (early (handedOn (blockIn sf f p)) written 44 (front-back ∙ sym written-front))
+      (λ i m u. late (handedOn (blockIn sf f p)) written 63 (rest-back ∙ sym written-rest) i m) j l
       ∙ written-code j l
 
   pub mark-small : f < 64 → p < 8 → blockMark sf f p ≤ 1
