@@ -29,7 +29,7 @@ use Rattle.history.proofs.Answers.{numbered, answer-is, accepted-in-ran
 
 -- ---- one call
 module _ (s : State) (k : Call s) where
-  heard : Accepted k → HeardAt k (s .next)
+  pub heard : Accepted k → HeardAt k (s .next)
   heard z = record { sounds = k .took .sound ∙ rw (numbered s k ∙ z); marks = k .took .marked ∙ rw (numbered s k ∙ z) }
 
   -- at whatever factors the state brought

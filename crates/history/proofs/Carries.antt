@@ -28,7 +28,7 @@ use Rattle.tape.specs.Tape.{frameAt, blockIn}
 use Rattle.tape.proofs.Tape.{block-bits}
 use Rattle.beside.specs.Beside.{extraBit, extraBits, extraOf, factorOr, sideOf, factorRead, serviceBit, serviceBits, syncOf, sixAndSync}
 
-extra-bits-below : (sf : List ℕ) (q : ℕ) → areBits (extraBits sf q) ≡ true
+pub extra-bits-below : (sf : List ℕ) (q : ℕ) → areBits (extraBits sf q) ≡ true
 unfolding extraBits extraBit
 extra-bits-below sf q =
     below-bits (extraBits sf q)

@@ -5,6 +5,8 @@ pub mod Answers
 pub mod Labels
 pub mod Ahead
 pub mod Served
+pub mod Entries
 pub mod Same
 pub mod OneScale
+pub mod Five
 pub mod Repaired

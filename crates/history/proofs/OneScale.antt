@@ -167,5 +167,6 @@ module _ (q : ℕ) (k : 1 ≤ q) (l : q ≤ 16) (sf sf' : List ℕ) (d : OnlySca
     where
       late-long : (s : List ℕ) → length (drop 42 (tabulate 64 (extraBit s (q - 1)))) ≡ 22
       late-long s = lib.ListN.length-drop 42 (tabulate 64 (extraBit s (q - 1))) ∙ omega (arith, length-tab 64 (extraBit s (q - 1)))
+
       late-at : (s : List ℕ) (j : ℕ) → 42 + j < 64 → getD (drop 42 (tabulate 64 (extraBit s (q - 1)))) j 0 ≡ extraBit s (q - 1) (42 + j)
       late-at s j within = getD-drop 42 (tabulate 64 (extraBit s (q - 1))) j 0 ∙ getD-tab 64 (extraBit s (q - 1)) (42 + j) 0 within

@@ -140,7 +140,7 @@ module _ (state : ℕ → State) (calls : Calls state) where
         rw (answered (state 71) k (taken 71 (omega arith)), before) come
 
 -- ---- what sets the labels back
-lost-range : (s : State) (k : Call s) → LostIn k → stateInRange s ≡ true
+pub lost-range : (s : State) (k : Call s) → LostIn k → stateInRange s ≡ true
 lost-range s k z =
     either-way (stateInRange s) (λ u. u)
     (λ u.

@@ -1,2 +1,3 @@
 pub mod Calls
 pub mod Run
+pub mod Alike

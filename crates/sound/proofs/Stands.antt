@@ -1,5 +1,6 @@
 -- Where every sample and mark stands, and what it says, in document 01's numbers ("Superframe", "Main frame", "The block").
---     stands        THE ENTRY of a side of programme q in frame f, from the block that carries it
+--     channel-stands    the entry of a channel in a frame, both from 0
+--     stands            THE ENTRY of a side of programme q in frame f, from the block that carries it
 -- Assumes nothing.
 use mathlib.Core.Path.{_≡_, refl, sym, ap, subst, _∙_}
 use mathlib.Core.List.{List}
@@ -43,20 +44,20 @@ module _ (sf factors : List ℕ) (f c : ℕ) (l : f < 64) (u : c < 32) where
   column : place % 32 ≡ c
   column = omega arith
 
-  sample-is : getD (samplesOf sf factors) place (pos 0) ≡ soundAt (codeIn sf f c) factor
+  pub sample-is : getD (samplesOf sf factors) place (pos 0) ≡ soundAt (codeIn sf f c) factor
   unfolding samplesOf sampleAt
   sample-is = getD-tab 2048 (inRows (sampleAt sf factors)) place (pos 0) (omega arith) ∙ rw (row, column)
 
-  mark-is : getD (marksOf sf factors) place 0 ≡ markWith (blockMark sf f (c / 4)) factor
+  pub mark-is : getD (marksOf sf factors) place 0 ≡ markWith (blockMark sf f (c / 4)) factor
   unfolding marksOf markAt
   mark-is = getD-tab 2048 (inRows (markAt sf factors)) place 0 (omega arith) ∙ rw (row, column)
 
   says : Marked (said (reading ordinary (protected (blockIn sf f (c / 4))))) (blockMark sf f (c / 4))
   says = subst (λ (r : Said). Marked r (blockMark sf f (c / 4))) (reading-there sf f (c / 4) l (omega arith)) (block-says sf f (c / 4))
 
-  placed : Stands (blockIn sf f (c / 4)) (c % 4 + 1) factor (getD (samplesOf sf factors) place (pos 0)) (getD (marksOf sf factors) place 0)
+  pub channel-stands : Stands (blockIn sf f (c / 4)) (c % 4 + 1) factor (getD (samplesOf sf factors) place (pos 0)) (getD (marksOf sf factors) place 0)
   unfolding soundAt markWith codeIn
-  placed =
+  channel-stands =
       let at : c % 4 + 1 - 1 ≡ c % 4 = omega arith in
       rw (sample-is, mark-is)
       (either-way (leb factor 7)
@@ -94,7 +95,7 @@ module _ (sf factors : List ℕ) (f b side : ℕ) (k : 1 ≤ f) (l : f ≤ 64) (
       let block : blockIn sf (f - 1) (c / 4) ≡ blockOf (frameAt sf (frame - 1)) (b - 1) =
       ap (blockIn sf (f - 1)) position ∙ carried sf f b k m u q frame place h in
       let at : placeIn f (channelOf q side) - 1 ≡ 32 * (f - 1) + c = omega arith in
-      rw (at, ← block, ← e) (placed sf factors (f - 1) c (omega arith) (omega arith))
+      rw (at, ← block, ← e) (channel-stands sf factors (f - 1) c (omega arith) (omega arith))
 
   pub stands : (q frame place : ℕ) → Carries f b q frame place → there q frame place
   stands q frame place a-first = from (2 * b - 1) f 1 a-first (omega arith) (omega arith) (omega arith)
