@@ -18,7 +18,7 @@ use Rattle.bits.specs.Digits.{Below}
 use Rattle.service_group.specs.Places.{zeros}
 use Rattle.service_group.specs.Six.{groupAfter, labelsAfter, stageAfter}
 use Rattle.service_sync.specs.Sync.{kindOf, isOpen, nextPosition, dropsWith}
-use Rattle.service.specs.Taking.{takeSix, groupWith, labelsWith, takeSync}
+use Rattle.service.specs.Taking.{takeSix, takeSync}
 use Rattle.service.specs.Service.{searchingService, served}
 use Rattle.service.specs.declared.Service.{Service}
 use Rattle.service_sync.specs.declared.Kind.{Kind}
@@ -33,7 +33,7 @@ pub record Clean (s : Service) : Type 0 where
   pub labels : (i : ℕ) → i < 256 → s .stage ≤ i % 8 + 1 → getD (s .labels) i 0 ≡ 0
 
 pub group-clean : (k : Kind) (p : ℕ) (g six : List ℕ) (b : Bool) → isOpen p ≡ b → (i : ℕ) → i < 32 → nextPosition k p ≤ i / 4 + 1
-    → getD (groupWith (nextPosition k p) (groupAfter p g six)) i 0 ≡ 0
+    → getD (cond (ltb 1 (nextPosition k p)) (groupAfter p g six) (zeros 32)) i 0 ≡ 0
 group-clean First p g six b e i l u = zeros-getD 32 i l
 group-clean Second p g six true e i l u =
     let past : p + 1 ≤ i / 4 + 1 = rw e at u in
@@ -45,7 +45,7 @@ group-clean Second p g six false e i l u = rw e (zeros-getD 32 i l)
 group-clean Neither p g six b e i l u = zeros-getD 32 i l
 
 pub labels-clean : (d : Bool) (p t : ℕ) (l g : List ℕ) (i : ℕ) → i < 256 → cond d 0 (stageAfter p t g) ≤ i % 8 + 1
-    → getD (labelsWith (cond d 0 (stageAfter p t g)) (labelsAfter p t l g)) i 0 ≡ 0
+    → getD (cond (ltb 0 (cond d 0 (stageAfter p t g))) (labelsAfter p t l g) (zeros 256)) i 0 ≡ 0
 labels-clean true p t l g i r u = zeros-getD 256 i r
 labels-clean false p t l g i r u = by-test (ltb 0 (stageAfter p t g)) refl where
   by-test : (b : Bool) → ltb 0 (stageAfter p t g) ≡ b → getD (cond b (labelsAfter p t l g) (zeros 256)) i 0 ≡ 0

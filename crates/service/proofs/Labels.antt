@@ -14,7 +14,7 @@ use mathlib.Core.List.{List, [], _∷_, _++_}
 use Prim.Native.Nat.{ℕ, zero, suc, _+_, _*_, _/_, _%_, _<_, _≤_}
 use native.Mathlib.Nat.{eq-or-lt-of-le}
 use native.Mathlib.Omega.{arith}
-use lib.Dec.{eqb}
+use lib.Dec.{eqb, ltb}
 use lib.ListN.{getD}
 use borrow.Author.Tests.{lt-ltb, eq-eqb, ne-eqb}
 use Rattle.bits.specs.Digits.{Below}
@@ -23,7 +23,7 @@ use Rattle.bits.proofs.Table.{length-tab, tab-ext, tab-getD}
 use Rattle.service_group.specs.Places.{zeros}
 use Rattle.service_group.specs.Six.{separates}
 use Rattle.service_sync.specs.Sync.{sync1, sync2, isOpen}
-use Rattle.service.specs.Taking.{takeSix, labelsWith, takeSync}
+use Rattle.service.specs.Taking.{takeSix, takeSync}
 use Rattle.service.specs.Service.{served}
 use Rattle.service.specs.Run.{Step, stepped, after}
 use Rattle.service.specs.Broadcast.{syncBehind, stepOf, broadcast, channelOf, Separated, labelsOf}
@@ -84,7 +84,7 @@ before-or-at n m l x = ⊎-elim (λ (e : n ≡ m). inr (e, x)) (λ (u : n < m). 
 module _ (sixes : ℕ → List ℕ) (k : ℕ) (t : Service) (a : Along sixes k t) (h : k < 71) where
   -- the labels behind the sync, at the stage x that it leaves
   labels-next : (x : ℕ) → x ≡ suc k / 8 → ((i : ℕ) → i % 8 + 1 < suc k / 8 → (i % 8 + 1 < k / 8) ⊎ ((i % 8 + 1 ≡ k / 8) × (k % 8 ≡ 7)))
-      → (i : ℕ) → i < 256 → i % 8 + 1 < suc k / 8 → getD (labelsWith x (takeSix t (sixes k) .labels)) i 0 ≡ channelOf sixes (i % 8 + 1) (i / 8)
+      → (i : ℕ) → i < 256 → i % 8 + 1 < suc k / 8 → getD (cond (ltb 0 x) (takeSix t (sixes k) .labels) (zeros 256)) i 0 ≡ channelOf sixes (i % 8 + 1) (i / 8)
   labels-next x e came i l u = rw (lt-ltb 0 x (omega arith)) (labels-with sixes k t a i l (came i u))
 
   -- ---- a superframe inside a group

@@ -57,18 +57,18 @@ none-left false = refl
 
 -- ---- an accepted step
 module _ (s : Service) (six : List ℕ) (h : InRange s) where
-  pub served-is : (sync : List ℕ) → Below 2 sync → served s six sync ≡ stepBy s (takeSix s six) (kindOf sync)
+  pub served-is : (sync : List ℕ) → Below 2 sync → served s six sync ≡ stepBy s six (kindOf sync)
   unfolding served accepts
   served-is sync b = rw (in-range-true s h, below-all 2 sync b)
 
   pub position-kept : (sync : List ℕ) → Below 2 sync → served s six sync .position ≡ s .position
   position-kept sync b = rw (served-is sync b)
 
-  pub served-first : served s six sync1 ≡ stepBy s (takeSix s six) First
+  pub served-first : served s six sync1 ≡ stepBy s six First
   unfolding allBelow Below
   served-first = served-is sync1 (search arith) ∙ rw first-kind
 
-  pub served-second : served s six sync2 ≡ stepBy s (takeSix s six) Second
+  pub served-second : served s six sync2 ≡ stepBy s six Second
   unfolding allBelow Below
   served-second = served-is sync2 (search arith) ∙ rw second-kind
 

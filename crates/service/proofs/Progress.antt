@@ -59,9 +59,9 @@ accepted-moved s six k h =
 
 -- a step is accepted or refused
 answer-either : (P : Served → Type 0) (s : Service) (six sync : List ℕ)
-    → P (stepBy s (takeSix s six) (kindOf sync)) → P (refusedService s) → P (served s six sync)
+    → P (stepBy s six (kindOf sync)) → P (refusedService s) → P (served s six sync)
 unfolding served
-answer-either P s six sync h k = picked P (accepts s sync) (stepBy s (takeSix s six) (kindOf sync)) (refusedService s) h k
+answer-either P s six sync h k = picked P (accepts s sync) (stepBy s six (kindOf sync)) (refusedService s) h k
 
 pub step-moved : (s : Service) (x : Step) → InRange s → Moved 1 s (stepped s x .next)
 unfolding refusedService

@@ -3,7 +3,7 @@
 --     inRange s             position and stage are at most 8; the bytes are free
 --     accepts s sync        the state is in its range and the sync's entries are bits
 --     refusedService s      number 2, and the state as given
---     stepBy s taken k      the answer: what the six bytes left is taken, then the sync of kind k
+--     stepBy s six k        the answer to a step that is accepted: the six bytes are taken first, then the sync of kind k
 --     served s six sync     the answer to any state, any six bytes and any 16 numbers
 use Prim.Native.Nat.{ℕ}
 use mathlib.Core.Bool.{Bool, false, cond}
@@ -31,15 +31,15 @@ unfoldable pub refusedService : Service → Served
 refusedService s = record { number = 2; position = 0; complete = false; labels = zeros 256; next = s }
 
 -- the six bytes have the position that the sync before them gave; a drop behind them does not change it
-abbrev pub stepBy : Service → Service → Kind → Served
-stepBy s taken k =
+abbrev pub stepBy : Service → List ℕ → Kind → Served
+stepBy s six k =
     record {
       number = numberOf k;
       position = s .position;
       complete = isReady (s .position) (s .stage);
-      labels = cond (isReady (s .position) (s .stage)) (taken .labels) (zeros 256);
-      next = takeSync k taken;
+      labels = cond (isReady (s .position) (s .stage)) (takeSix s six .labels) (zeros 256);
+      next = takeSync k (takeSix s six);
     }
 
 unfoldable pub served : Service → List ℕ → List ℕ → Served
-served s six sync = cond (accepts s sync) (stepBy s (takeSix s six) (kindOf sync)) (refusedService s)
+served s six sync = cond (accepts s sync) (stepBy s six (kindOf sync)) (refusedService s)

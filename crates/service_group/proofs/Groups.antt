@@ -35,15 +35,15 @@ use Rattle.service_group.proofs.Orders.{before-kept, at-comes, behind-n
 module _ (p : ℕ) (g six : List ℕ) (i : ℕ) (l : i < 32) where
   pub channel-kept : i / 4 + 1 < p → getD (groupAfter p g six) i 0 ≡ getD g i 0
   unfolding groupAfter channelByte
-  channel-kept h = getD-tab 32 (channelByte p g six) i 0 l ∙ before-kept p (i / 4 + 1) (getD g i 0) (getD six (i % 4) 0) h
+  channel-kept h = getD-tab 32 (channelByte p g six) i 0 l ∙ before-kept p (i / 4 + 1) (getD g i 0) _ h
 
   pub channel-comes : i / 4 + 1 ≡ p → getD (groupAfter p g six) i 0 ≡ getD six (i % 4) 0
   unfolding groupAfter channelByte
-  channel-comes h = getD-tab 32 (channelByte p g six) i 0 l ∙ at-comes p (i / 4 + 1) (getD g i 0) (getD six (i % 4) 0) h
+  channel-comes h = getD-tab 32 (channelByte p g six) i 0 l ∙ at-comes p (i / 4 + 1) (getD g i 0) _ h
 
   pub channel-none : p < i / 4 + 1 → getD (groupAfter p g six) i 0 ≡ 0
   unfolding groupAfter channelByte
-  channel-none h = getD-tab 32 (channelByte p g six) i 0 l ∙ behind-none p (i / 4 + 1) (getD g i 0) (getD six (i % 4) 0) h
+  channel-none h = getD-tab 32 (channelByte p g six) i 0 l ∙ behind-none p (i / 4 + 1) (getD g i 0) _ h
 
 -- programmes count from 1
 abbrev pub leftOf : ℕ → ℕ

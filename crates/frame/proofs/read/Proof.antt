@@ -12,7 +12,10 @@ refused-requires c κs = search needs
 
 returns : tie.Need-returns
 unfolding readFrame
-returns c = rw (ne-eqb (length (c .before .before .before .args .bytes .now)) 40 (λ e. omega arith)) (c .refused .ensures)
+returns c =
+    let sized = c .before in
+    let a = sized .before .before .args in
+    rw (ne-eqb (length (a .bytes .now)) 40 (λ e. omega arith)) (c .refused .ensures)
 
 sync-errors-requires : tie.Need-sync-errors-requires
 sync-errors-requires c κs = search needs
@@ -23,8 +26,10 @@ refused-requires-2 c κs = search needs
 returns-2 : tie.Need-returns-2
 unfolding readFrame
 returns-2 c =
-    let a = c .before .before .before .before .before .args in
-    let wrong = c .before .before .sync-errors .ensures in
+    let measured = c .before .before in
+    let sized = measured .before in
+    let a = sized .before .before .args in
+    let wrong = measured .sync-errors .ensures in
     rw (
       eq-eqb (length (a .bytes .now)) 40 (omega arith),
       lt-leb (wrongSync (a .letter) (a .bytes .now)) mostWrong (omega arith),
@@ -49,16 +54,21 @@ block-of-requires-4 c κs = search needs
 returns-3 : tie.Need-returns-3
 unfolding readFrame
 returns-3 c =
-    let four = c .before .before .before .before .before in
-    let a = four .before .before .before .before .args in
-    let wrong = four .before .sync-errors .ensures in
+    let third = c .before in
+    let second = third .before in
+    let first = second .before in
+    let service = first .before in
+    let measured = service .before .before in
+    let sized = measured .before in
+    let a = sized .before .before .args in
+    let wrong = measured .sync-errors .ensures in
     rw (
       eq-eqb (length (a .bytes .now)) 40 (omega arith),
       le-leb (wrongSync (a .letter) (a .bytes .now)) mostWrong (omega arith),
-      c .before .before .before .before .service-of .ensures,
-      c .before .before .before .block-of .ensures,
-      c .before .before .block-of2 .ensures,
-      c .before .block-of3 .ensures,
+      service .service-of .ensures,
+      first .block-of .ensures,
+      second .block-of2 .ensures,
+      third .block-of3 .ensures,
       c .block-of4 .ensures,
     )
 

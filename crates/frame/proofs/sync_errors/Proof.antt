@@ -40,8 +40,10 @@ bit-of-requires c κs = search needs
 
 add-wrong : tie.Need-add-wrong Inv-loop μ-loop
 add-wrong c =
-    let sync = sync-bit (c .before .before .before) (c .before .before .loop .k) in
-    let bit = bitAt-below (c .before .before .before .before .before .args .bytes .now) (c .before .before .loop .k) in
+    let at-loop = c .before .before in
+    let entered = at-loop .before in
+    let sync = sync-bit entered (at-loop .loop .k) in
+    let bit = bitAt-below (entered .before .before .args .bytes .now) (at-loop .loop .k) in
     omega (arith, c .bit-of .ensures)
 
 add-wrong-2 : tie.Need-add-wrong-2 Inv-loop μ-loop

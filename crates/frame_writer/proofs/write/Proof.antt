@@ -31,7 +31,10 @@ joined-requires c κs = search needs
 
 fill-requires : tie.Need-fill-requires
 fill-requires c κs =
-    let tested = c .before .before .before .before .before .before in
+    let bits = c .before in
+    let pairs = bits .before in
+    let sent = pairs .before .before in
+    let tested = sent .before .before in
     let none : tested .write-number .result ≡ 0 = omega arith in
     number-zero _ _ _ (sym none ∙ tested .write-number .ensures) .0
 
@@ -41,13 +44,14 @@ same-length c = search needs
 returns-2 : tie.Need-returns-2
 unfolding frameBits frameBytes
 returns-2 c =
-    let bits = c .before .before .before .before in
+    let filled = c .before .before in
+    let bits = filled .before .before in
     let pairs = bits .before in
     let sent = pairs .before .before in
     let tested = sent .before .before in
     let a = tested .before .before .args in
     success (a .letter) (a .service) _ (a .out .now) (tested .write-number .result) (tested .write-number .ensures) _ (omega arith)
-    (c .before .before .fill .ensures
+    (filled .fill .ensures
     ∙ ap bytesOf (bits .joined .ensures ∙ simp (sent .carried .ensures, pairs .before .interleaved .ensures, pairs .interleaved2 .ensures)))
 
 pub write-spec : {M : Type 1} → statement M

@@ -47,17 +47,25 @@ byte-of-requires-3 c κs = search needs
 vote-requires : tie.Need-vote-requires Inv-loop μ-loop
 vote-requires c κs = search needs
 
+-- the turn's beginning, behind three bytes and their vote
+abbrev turn-of : tie.After-vote Inv-loop μ-loop → tie.At-loop Inv-loop μ-loop
+turn-of c =
+    let third = c .before in
+    let second = third .before in
+    let first = second .before in
+    first .before .before
+
 room : (c : tie.At-loop Inv-loop μ-loop) → c .loop .sum < 2 ^ 14
 room c =
     let bits = c .before .before .args .bits .now in
     rw (c .loop .inv .1) (sum-room (voted bits) (voted-below bits) (c .loop .k) 14 (c .loop .inv .0))
 
 mul-sum : tie.Need-mul-sum Inv-loop μ-loop
-mul-sum c = let h = room (c .before .before .before .before .before) in search needs
+mul-sum c = let h = room (turn-of c) in search needs
 
 add-sum : tie.Need-add-sum Inv-loop μ-loop
 add-sum c =
-    let h = room (c .before .before .before .before .before) in
+    let h = room (turn-of c) in
     let bit : c .vote .result < 2 = rw (c .vote .ensures) (most-below _ _ _) in
     search needs
 
@@ -69,10 +77,14 @@ loop-less c = search needs
 
 loop-again : tie.Need-loop-again Inv-loop μ-loop
 loop-again c =
-    let l = c .before .before .before .before .before .loop in
-    let bits = c .before .before .before .before .before .before .before .args .bits .now in
+    let third = c .before in
+    let second = third .before in
+    let first = second .before in
+    let turn = first .before .before in
+    let l = turn .loop in
+    let bits = turn .before .before .args .bits .now in
     let bit : c .vote .result ≡ voted bits (l .k) =
-    c .vote .ensures ∙ rw (c .before .byte-of3 .ensures, c .before .before .byte-of2 .ensures, c .before .before .before .byte-of .ensures) in
+    c .vote .ensures ∙ rw (third .byte-of3 .ensures, second .byte-of2 .ensures, first .byte-of .ensures) in
     (search needs, ap₂ (λ (x y : ℕ). x * 2 + y) (l .inv .1) bit ∙ sym (value-tab 2 (l .k) (voted bits)))
 
 returns : tie.Need-returns Inv-loop μ-loop

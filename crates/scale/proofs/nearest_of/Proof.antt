@@ -33,9 +33,11 @@ near-requires c κs = search needs
 
 returns : tie.Need-returns Inv-loop μ-loop
 returns c =
-    let word = c .before .before .before .before .args .word in
-    let pair = (word / 256 + c .before .before .before .loop .k) % 64 in
-    sym (nearest-hit (digits 2 14 word) (length-digits 2 14 word) pair (omega arith) (sym (c .before .near .ensures) ∙ c .if1 .taken))
+    let tried = c .before in
+    let turn = tried .before .before in
+    let word = turn .before .args .word in
+    let pair = (word / 256 + turn .loop .k) % 64 in
+    sym (nearest-hit (digits 2 14 word) (length-digits 2 14 word) pair (omega arith) (sym (tried .near .ensures) ∙ c .if1 .taken))
 
 add-k : tie.Need-add-k Inv-loop μ-loop
 add-k c = search needs
@@ -45,10 +47,12 @@ loop-less c = search needs
 
 loop-again : tie.Need-loop-again Inv-loop μ-loop
 loop-again c =
-    let l = c .before .before .before .loop in
-    let word = c .before .before .before .before .args .word in
+    let tried = c .before in
+    let turn = tried .before .before in
+    let l = turn .loop in
+    let word = turn .before .args .word in
     let passed : ℕ → Type 0 = λ j. nearTo (digits 2 14 word) ((word / 256 + j) % 64) ≡ false in
-    (search needs, below-more passed (l .k) (l .inv .1) (sym (c .before .near .ensures) ∙ c .if1 .left))
+    (search needs, below-more passed (l .k) (l .inv .1) (sym (tried .near .ensures) ∙ c .if1 .left))
 
 returns-2 : tie.Need-returns-2 Inv-loop μ-loop
 unfolding pairAnswer

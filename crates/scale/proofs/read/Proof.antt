@@ -1,6 +1,8 @@
 -- `scale::read` meets its contract. Assumes nothing.
 use mathlib.Core.Path.{_≡_, sym, _∙_}
 use mathlib.Core.Bool.{true, false}
+use mathlib.Core.List.{List}
+use Prim.Native.Nat.{ℕ}
 use borrow.Author.Tests.{not-true, not-false}
 use Rattle.bits.specs.Bits.{areBits}
 use Rattle.scale.specs.Reading.{pairAnswer, readScale, readAnswer}
@@ -20,7 +22,9 @@ are-bits-requires c κs = search needs
 returns : tie.Need-returns
 unfolding readAnswer
 returns c =
-    let none : areBits (c .before .before .before .args .t1) ≡ false = sym (c .before .are-bits .ensures) ∙ not-true _ (c .if1 .taken) in
+    let looked = c .before in
+    let bits = looked .before .before .args .t1 in
+    let none : areBits bits ≡ false = sym (looked .are-bits .ensures) ∙ not-true _ (c .if1 .taken) in
     rw none
 
 slice-aggregate-majority-of : tie.Need-slice-aggregate-majority-of
@@ -33,11 +37,22 @@ nearest-of-requires : tie.Need-nearest-of-requires
 nearest-of-requires c κs = rw (c .majority-of .ensures) (majority-small _)
 
 module _ (c : tie.After-nearest-of) where
-  all : areBits (c .before .before .before .before .before .before .args .t1) ≡ true
-  all = sym (c .before .before .before .before .are-bits .ensures) ∙ not-false _ (c .before .before .before .if1 .left)
+  abbrev given : List ℕ
+  given =
+      let voted = c .before in
+      let tested = voted .before .before in
+      let looked = tested .before in
+      looked .before .before .args .t1
 
-  found : pairAnswer (c .nearest-of .result) ≡ readScale (c .before .before .before .before .before .before .args .t1)
-  found = read-found _ (c .before .majority-of .result) (c .nearest-of .result) (c .before .majority-of .ensures) (c .nearest-of .ensures)
+  all : areBits given ≡ true
+  all =
+      let voted = c .before in
+      let tested = voted .before .before in
+      let looked = tested .before in
+      sym (looked .are-bits .ensures) ∙ not-false _ (tested .if1 .left)
+
+  found : pairAnswer (c .nearest-of .result) ≡ readScale given
+  found = let voted = c .before in read-found _ (voted .majority-of .result) (c .nearest-of .result) (voted .majority-of .ensures) (c .nearest-of .ensures)
 
 returns-2 : tie.Need-returns-2
 unfolding readAnswer

@@ -1,6 +1,8 @@
 -- `scale::read_extra` meets its contract. Assumes nothing.
 use mathlib.Core.Path.{_≡_, sym, ap₂, _∙_}
 use mathlib.Core.Bool.{true, false}
+use mathlib.Core.List.{List}
+use Prim.Native.Nat.{ℕ}
 use lib.ListN.{length, take}
 use borrow.Author.Tests.{not-true, not-false}
 use Rattle.bits.specs.Bits.{areBits}
@@ -22,7 +24,9 @@ are-bits-requires c κs = search needs
 returns : tie.Need-returns
 unfolding extraAnswer
 returns c =
-    let none : areBits (c .before .before .before .args .t1) ≡ false = sym (c .before .are-bits .ensures) ∙ not-true _ (c .if1 .taken) in
+    let looked = c .before in
+    let bits = looked .before .before .args .t1 in
+    let none : areBits bits ≡ false = sym (looked .are-bits .ensures) ∙ not-true _ (c .if1 .taken) in
     rw none
 
 slice-aggregate-word-behind : tie.Need-slice-aggregate-word-behind
@@ -41,18 +45,33 @@ nearest-of-requires : tie.Need-nearest-of-requires
 nearest-of-requires c κs = rw (c .majority-of .ensures) (majority-small _)
 
 module _ (c : tie.After-nearest-of) where
-  all : areBits (c .before .before .before .before .before .before .before .before .args .t1) ≡ true
-  all = sym (c .before .before .before .before .before .before .are-bits .ensures) ∙ not-false _ (c .before .before .before .before .before .if1 .left)
+  abbrev given : List ℕ
+  given =
+      let voted = c .before in
+      let worded = voted .before .before in
+      let tested = worded .before .before in
+      let looked = tested .before in
+      looked .before .before .args .t1
 
-  found : pairAnswer (c .nearest-of .result) ≡ readScale (take 42 (c .before .before .before .before .before .before .before .before .args .t1))
+  all : areBits given ≡ true
+  all =
+      let voted = c .before in
+      let worded = voted .before .before in
+      let tested = worded .before .before in
+      let looked = tested .before in
+      sym (looked .are-bits .ensures) ∙ not-false _ (tested .if1 .left)
+
+  found : pairAnswer (c .nearest-of .result) ≡ readScale (take 42 given)
   found =
-      read-found _ (c .before .majority-of .result) (c .nearest-of .result) (c .before .majority-of .ensures) (c .nearest-of .ensures)
-      ∙ sym (read-take (c .before .before .before .before .before .before .before .before .args .t1))
+      let voted = c .before in
+      read-found _ (voted .majority-of .result) (c .nearest-of .result) (voted .majority-of .ensures) (c .nearest-of .ensures) ∙ sym (read-take given)
 
-  word : c .before .before .before .word-behind .result ≡ information (c .before .before .before .before .before .before .before .before .args .t1)
+  word : c .before .before .before .word-behind .result ≡ information given
   word =
-      let sized : length (c .before .before .before .before .before .before .before .before .args .t1) ≡ 64 = search needs in
-      c .before .before .before .word-behind .ensures ∙ information-sum _ sized all
+      let voted = c .before in
+      let worded = voted .before .before in
+      let sized : length given ≡ 64 = search needs in
+      worded .word-behind .ensures ∙ information-sum _ sized all
 
 returns-2 : tie.Need-returns-2
 unfolding extraAnswer

@@ -54,8 +54,9 @@ loop-less c = search needs
 
 loop-again : tie.Need-loop-again Inv-loop μ-loop
 loop-again c =
-    let l = c .before .before .loop in
-    let bits = c .before .before .before .before .args .bits .now in
+    let turn = c .before .before in
+    let l = turn .loop in
+    let bits = turn .before .before .args .bits .now in
     let bit : c .byte-of .result % 2 ≡ behind bits (l .j) = ap (λ (x : ℕ). x % 2) (c .byte-of .ensures) in
     (search needs, ap₂ (λ (x y : ℕ). x * 2 + y) (l .inv .1) bit ∙ sym (value-tab 2 (l .j) (behind bits)))
 

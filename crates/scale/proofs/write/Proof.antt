@@ -40,13 +40,16 @@ bits-of-requires c κs = search needs
 returns-3 : tie.Need-returns-3
 unfolding writeAnswer
 returns-3 c =
-    let s = c .before .before .before .before .args in
+    let made-word = c .before in
+    let second = made-word .before in
+    let first = second .before in
+    let s = first .before .args in
     let n = s .left * 8 + s .right in
     let left : n / 8 ≡ s .left = omega arith in
     let right : n % 8 ≡ s .right = omega arith in
     let word : c .bits-of .result ≡ scaleWord (s .left) (s .right) =
-    c .bits-of .ensures ∙ ap (digits 2 14) (c .before .word-of .ensures) ∙ word-digits n ∙ ap₂ scaleWord left right in
-    rw (le-leb (s .left) 7 (c .before .before .before .if1 .left), le-leb (s .right) 7 (c .before .before .if2 .left)) (ap made word)
+    c .bits-of .ensures ∙ ap (digits 2 14) (made-word .word-of .ensures) ∙ word-digits n ∙ ap₂ scaleWord left right in
+    rw (le-leb (s .left) 7 (first .if1 .left), le-leb (s .right) 7 (second .if2 .left)) (ap made word)
 
 pub write-spec : {M : Type 1} → statement M
 write-spec =
