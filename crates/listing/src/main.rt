@@ -49,7 +49,7 @@ fn totals_of(count: u32) -> Totals {
             break;
         }
         let stepped = totals.step(&superframe);
-        totals = stepped;
+        totals = stepped.next;
         done += 1;
         show(done, count);
     }
