@@ -93,7 +93,7 @@ fn put_words(out: &mut [u8], to: usize, words: [u32; 16]) -> usize
     text::put(out, end, b'\n')
 }
 
-// From a place on; behind the lines is the place that is handed back.
+// From a place on; the place behind the lines is answered, in the way of `text`.
 pub fn put_beside(out: &mut [u8], to: usize, taken: Taken) -> usize
     ensures { λ r. ⌜ page (now (out .exit)) r ≡ putText (page (now (out .entry)) to) (besideText taken) ⌝ }
 {

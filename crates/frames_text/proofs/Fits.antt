@@ -3,17 +3,14 @@
 --     frames-fit            the lines of the 64 frames have at most 17,728 characters
 -- Assumes nothing.
 use mathlib.Core.Path.{sym, subst, _∙_}
-use mathlib.Core.Bool.{_&&_}
 use mathlib.Core.List.{List, [], _∷_, _++_}
 use Prim.Native.Nat.{ℕ, suc, _+_, _*_, _^_, _≤_, _<_}
 use native.Mathlib.Omega.{arith}
-use lib.Dec.{eqb}
 use lib.IntN.{ℤ, pos, negsuc}
 use lib.ListN.{length, getD, drop, length-append}
 use lib.Seq.{getD-take, getD-drop}
 use lib.Signed.{mag}
 use Rattle.bits.specs.Letters.{letters}
-use Rattle.bits.proofs.Tests.{either-way}
 use Rattle.text.specs.Digits.{blank, decimal, signed}
 use Rattle.text.proofs.Decimal.{decimal-short}
 use Rattle.text_rows.specs.Rows.{row}
@@ -63,7 +60,4 @@ length-frame samples marks n h l =
 
 pub frames-fit : (samples : List ℤ) (marks : List ℕ) → Sixteen samples → length (framesText samples marks) ≤ 17728
 unfolding framesText
-frames-fit samples marks h =
-    either-way (eqb (length samples) 2048 && eqb (length marks) 2048)
-    (λ e. rw e (length-turns 277 64 (frameText samples marks) (λ n l. length-frame samples marks n h l)))
-    (λ e. rw e (omega arith))
+frames-fit samples marks h = length-turns 277 64 (frameText samples marks) (λ n l. length-frame samples marks n h l)

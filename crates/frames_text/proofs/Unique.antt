@@ -3,11 +3,11 @@ use mathlib.Core.Path.{_≡_}
 use mathlib.Core.List.{List}
 use Prim.Native.Nat.{ℕ}
 use lib.IntN.{ℤ}
-use Rattle.text.specs.Page.{Page, page, putText}
+use Rattle.text.specs.Page.{Page, page}
 use Rattle.text.proofs.Unique.{put-unique}
-use Rattle.frames_text.specs.Frames.{framesText}
+use Rattle.frames_text.specs.Frames.{framesPut}
 
 module _ (out out' : List ℕ) (r r' : ℕ) (start : Page) (samples : List ℤ) (marks : List ℕ) where
   pub put-frames-unique :
-      page out r ≡ putText start (framesText samples marks) → page out' r' ≡ putText start (framesText samples marks) → (out ≡ out') × (r ≡ r')
-  put-frames-unique = put-unique out out' r r' (putText start (framesText samples marks))
+      page out r ≡ framesPut start samples marks → page out' r' ≡ framesPut start samples marks → (out ≡ out') × (r ≡ r')
+  put-frames-unique = put-unique out out' r r' (framesPut start samples marks)

@@ -2,8 +2,7 @@
 ghost use mathlib.Core.Path.{_≡_};
 ghost use lib.ListN.{length};
 ghost use Rattle.text.specs.Page.{page, putText};
-ghost use Rattle.text_rows.specs.Turns.{inTurn};
-ghost use Rattle.frames_text.specs.Frames.{marksLine, samplesLine, frameText, framesText};
+ghost use Rattle.frames_text.specs.Frames.{marksLine, samplesLine, framesText, framesPut};
 
 fn put_marks(out: &mut [u8], to: usize, f: usize, marks: &[u8]) -> usize
     ensures { λ r. ⌜ page (now (out .exit)) r ≡ putText (page (now (out .entry)) to) (marksLine f (now (marks .entry))) ⌝ }
@@ -30,7 +29,7 @@ fn put_samples(out: &mut [u8], to: usize, f: usize, samples: &[i16]) -> usize
 
 fn put_each_frame(out: &mut [u8], to: usize, samples: &[i16], marks: &[u8]) -> usize
     requires { ⌜ (length (now samples) ≡ 2048) × (length (now marks) ≡ 2048) ⌝ }
-    ensures { λ r. ⌜ page (now (out .exit)) r ≡ putText (page (now (out .entry)) to) (inTurn 64 (frameText (now (samples .entry)) (now (marks .entry)))) ⌝ }
+    ensures { λ r. ⌜ page (now (out .exit)) r ≡ putText (page (now (out .entry)) to) (framesText (now (samples .entry)) (now (marks .entry))) ⌝ }
 {
     let mut end = to;
     let mut n: usize = 0;
@@ -44,15 +43,16 @@ fn put_each_frame(out: &mut [u8], to: usize, samples: &[i16], marks: &[u8]) -> u
     end
 }
 
-// From a place on; behind the lines is the place that is handed back. Other lengths than 2,048 give none.
+// From a place on; the place behind the lines is answered, in the way of `text`. Of other lengths than 2,048 no line is put, and the place answered
+// is past the end of every buffer, as for a text that does not fit.
 pub fn put_frames(out: &mut [u8], to: usize, samples: &[i16], marks: &[u8]) -> usize
-    ensures { λ r. ⌜ page (now (out .exit)) r ≡ putText (page (now (out .entry)) to) (framesText (now (samples .entry)) (now (marks .entry))) ⌝ }
+    ensures { λ r. ⌜ page (now (out .exit)) r ≡ framesPut (page (now (out .entry)) to) (now (samples .entry)) (now (marks .entry)) ⌝ }
 {
     if samples.len() != 2048 {
-        return to;
+        return usize::MAX;
     }
     if marks.len() != 2048 {
-        return to;
+        return usize::MAX;
     }
     put_each_frame(out, to, samples, marks)
 }

@@ -49,7 +49,7 @@ fn totals_of(count: u32) -> Totals {
             break;
         }
         let stepped = totals.step(&superframe);
-        totals = stepped;
+        totals = stepped.next;
         done += 1;
         show(done, count);
     }
@@ -74,6 +74,6 @@ fn main() {
     let header = input::header();
     let totals = read(header);
     let mut out = [0u8; 192];
-    let end = listing_text::put_listing(&mut out, 0, header, totals);
-    write_first(1, &out, end);
+    let placed = listing_text::put_listing(&mut out, 0, header, totals);
+    write_first(1, &out, placed.end);
 }

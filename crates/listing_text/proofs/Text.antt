@@ -1,18 +1,23 @@
 -- The text of a listing.
 --     document-case     document 01's reel of two: the definition gives its six lines, letter by letter
 --     listing-fits      a listing of totals of 64 bits has at most 149 characters
+--     listing-whole     so a buffer of so many bytes holds it from its first byte on: it is not refused, and stands there
 -- Assumes nothing.
-use mathlib.Core.Path.{_≡_, refl}
+use mathlib.Core.Path.{_≡_, refl, ap, _∙_}
 use mathlib.Core.List.{List, [], _∷_, _++_}
 use Prim.Native.Nat.{ℕ, _+_, _^_, _≤_, _<_}
+use native.Mathlib.Nat.{zero-add}
 use native.Mathlib.Omega.{arith}
 use lib.Dec.{eqb}
-use lib.ListN.{length, length-append}
+use lib.ListN.{length, drop, length-append}
 use Rattle.bits.specs.Answer.{accepted}
 use Rattle.bits.specs.Letters.{letters}
 use Rattle.bits.proofs.Tests.{either-way}
+use Rattle.text.specs.Page.{page}
+use Rattle.text.specs.Entry.{enteredText}
 use Rattle.text.specs.Digits.{decimal, decimalIn}
 use Rattle.text.proofs.Decimal.{decimal-short}
+use Rattle.text.proofs.Entry.{entered-fits}
 use Rattle.reel.specs.Header.{headerAnswer}
 use Rattle.reel.specs.declared.HeaderRead.{HeaderRead}
 use Rattle.reel.specs.declared.HeaderRead.the-variants.{Reel, NoHeader}
@@ -64,3 +69,12 @@ pub listing-fits : (h : HeaderRead) (t : Totals) → Held t → length (listing 
 unfolding listing letters
 listing-fits (Reel count offset) t l = length-six count t l
 listing-fits NoHeader t l = let r = length-line (letters "refused") 8 (omega arith) in omega (arith, r)
+
+pub listing-whole :
+    (out : List ℕ) (h : HeaderRead) (t : Totals) → 149 ≤ length out → Held t →
+    let s = listing (headerAnswer h) t in
+    enteredText (page out 0) s ≡ record { number = 0; page = page (s ++ drop (length s) out) (length s) }
+listing-whole out h t room held =
+    let s = listing (headerAnswer h) t in
+    let fits = listing-fits h t held in
+    entered-fits out s 0 (omega (arith, fits, room)) ∙ ap (λ (n : ℕ). record { number = 0; page = page (s ++ drop n out) n }) (zero-add (length s))

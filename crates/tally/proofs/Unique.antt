@@ -3,7 +3,8 @@ use mathlib.Core.Path.{_≡_}
 use mathlib.Core.List.{List}
 use Prim.Native.Nat.{ℕ}
 use Rattle.bits.proofs.Unique.{same}
-use Rattle.tally.specs.Totals.{sumOf, noTotals, stepped}
+use Rattle.tally.specs.Totals.{sumOf, noTotals, stepOf}
+use Rattle.tally.specs.declared.Step.{Step}
 use Rattle.tally.specs.declared.Totals.{Totals}
 
 pub sum-unique : (r r' : ℕ) (l : List ℕ) → r ≡ sumOf l → r' ≡ sumOf l → r ≡ r'
@@ -12,5 +13,5 @@ sum-unique r r' l = same
 pub none-unique : (r r' : Totals) → r ≡ noTotals → r' ≡ noTotals → r ≡ r'
 none-unique r r' = same
 
-pub step-unique : (r r' t : Totals) (sf : List ℕ) → r ≡ stepped t sf → r' ≡ stepped t sf → r ≡ r'
+pub step-unique : (r r' : Step) (t : Totals) (sf : List ℕ) → r ≡ stepOf t sf → r' ≡ stepOf t sf → r ≡ r'
 step-unique r r' t sf = same

@@ -3,6 +3,8 @@
 --     sumOf l               the sum of some numbers
 --     noTotals              before the first superframe
 --     stepped t sf          after one superframe more: it is read, perhaps lost, and its blocks are clean, mended or bad
+--     stepOf t sf           what a step answers: number 1 and the totals as they were for bytes of another length, else 0 and the totals after it. A
+--                           lost superframe is counted and not refused: the listing goes on after it
 --     totalsOf sfs          after all of some superframes, in order
 use Prim.Native.Nat.{ℕ, _+_, _-_, _^_, min}
 use mathlib.Core.Bool.{cond}
@@ -10,6 +12,7 @@ use mathlib.Core.List.{List, [], _∷_}
 use lib.Dec.{eqb}
 use Rattle.tape.specs.Tape.{countsOf}
 use Rattle.tape.specs.declared.blocks.Counted.{Counted}
+use Rattle.tally.specs.declared.Step.{Step}
 use Rattle.tally.specs.declared.Totals.{Totals}
 
 unfoldable pub grown : ℕ → ℕ → ℕ
@@ -36,6 +39,9 @@ withCounted t c =
 -- bytes of another length are no superframe
 unfoldable pub stepped : Totals → List ℕ → Totals
 stepped t sf = cond (eqb (countsOf sf .number) 1) t (withCounted t (countsOf sf))
+
+unfoldable pub stepOf : Totals → List ℕ → Step
+stepOf t sf = record { number = cond (eqb (countsOf sf .number) 1) 1 0; next = stepped t sf }
 
 unfoldable pub totalsFrom : Totals → List (List ℕ) → Totals
 totalsFrom t [] = t

@@ -1,7 +1,7 @@
 // The totals of a listing (document 01, "Reel file and listing"), which grow by one superframe at a time.
 ghost use mathlib.Core.Path.{_≡_};
 ghost use Prim.Native.Nat.{_<_};
-ghost use Rattle.tally.specs.Totals.{grown, sumOf, noTotals, stepped};
+ghost use Rattle.tally.specs.Totals.{grown, sumOf, noTotals, stepOf};
 
 pub struct Totals {
     // whole superframes read, lost ones among them
@@ -11,6 +11,12 @@ pub struct Totals {
     pub clean: u64,
     pub mended: u64,
     pub bad: u64,
+}
+
+// What one superframe more answers: number 0 with the totals after it, or the number of what is none with the totals as they were.
+pub struct Step {
+    pub number: u8,
+    pub next: Totals,
 }
 
 // A total stops at the largest number that it can hold, which no reel comes near.
@@ -56,26 +62,30 @@ impl Totals {
         }
     }
 
-    // One superframe more. What is none, by its length, is not counted.
-    pub fn step(self, superframe: &[u8]) -> Self
-        ensures { λ r. ⌜ r ≡ stepped self (now (superframe .entry)) ⌝ }
+    // One superframe more. What is none, by its length, is refused with 1; a lost one is counted, and is no refusal.
+    pub fn step(self, superframe: &[u8]) -> Step
+        ensures { λ r. ⌜ r ≡ stepOf self (now (superframe .entry)) ⌝ }
     {
         let counted = tape::counts(superframe);
         let number = counted.number;
         if number == 1 {
-            return self;
+            return Step {
+                number: 1,
+                next: self,
+            };
         }
         let lost = if number == 3 { 1 } else { 0 };
         let blocks = counted.blocks;
         let clean = blocks.clean;
         let mended = blocks.mended;
         let bad = blocks.bad;
-        Totals {
+        let next = Totals {
             superframes: grow(self.superframes, 1),
             lost: grow(self.lost, lost),
             clean: grow(self.clean, sum(clean)),
             mended: grow(self.mended, sum(mended)),
             bad: grow(self.bad, sum(bad)),
-        }
+        };
+        Step { number: 0, next }
     }
 }

@@ -1,3 +1,4 @@
 pub mod Pages
+pub mod Entry
 pub mod Decimal
 pub mod Unique

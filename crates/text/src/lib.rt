@@ -1,10 +1,31 @@
-// Text put into a lent buffer. Every function takes the place where it starts and returns the place behind what it put; what does not fit is
-// left out, and bytes before and behind stay as they were.
+// Text put into a lent buffer. Every function takes the place where the text starts and answers the place behind it. What does not fit is left
+// out, all other bytes stay as they were, and the place answered is then past the buffer's end: so it says whether anything was left out.
 ghost use mathlib.Core.Path.{_≡_};
 ghost use mathlib.Core.List.{[], _∷_};
 ghost use Rattle.text.specs.Page.{page, putText};
+ghost use Rattle.text.specs.Entry.{placedWithin};
 ghost use Rattle.text.specs.Digits.{blank, decimal, signed};
 
+// What an entry point that puts a text answers: 1 and the place as given where the text does not fit, and nothing is written then; else 0 and
+// the place behind the text.
+pub struct Placed {
+    pub number: u8,
+    pub end: usize,
+}
+
+impl Placed {
+    // For a text that starts at a place and ends at another, in a buffer of some length.
+    pub fn within(length: usize, to: usize, end: usize) -> Self
+        ensures { λ r. ⌜ r ≡ placedWithin length to end ⌝ }
+    {
+        if length < end {
+            return Placed { number: 1, end: to };
+        }
+        Placed { number: 0, end }
+    }
+}
+
+// The place goes on whether there was room or not, and stops at the largest number, to which no buffer reaches.
 pub fn put(out: &mut [u8], to: usize, byte: u8) -> usize
     ensures { λ r. ⌜ page (now (out .exit)) r ≡ putText (page (now (out .entry)) to) (byte ∷ []) ⌝ }
 {
@@ -12,7 +33,10 @@ pub fn put(out: &mut [u8], to: usize, byte: u8) -> usize
         out[to] = byte;
         return to + 1;
     }
-    to
+    if to == usize::MAX {
+        return to;
+    }
+    to + 1
 }
 
 pub fn put_all(out: &mut [u8], to: usize, bytes: &[u8]) -> usize

@@ -1,4 +1,4 @@
-// Lists put into a lent buffer as rows of digits, in the way of `text`: from a place on, as far as there is room.
+// Lists put into a lent buffer as rows of digits, in the way of `text`: from a place on, and the place behind says whether all of it fitted.
 ghost use mathlib.Core.Path.{_≡_};
 ghost use Rattle.text.specs.Page.{page, putText};
 ghost use Rattle.text_rows.specs.Rows.{row, hexDigit, hexByte, hexadecimal};

@@ -10,7 +10,8 @@ fn write_superframe(k: u32, state: State, bytes: &[u8; 5120]) -> State {
     let taken = state.take(bytes, &mut samples, &mut marks);
     let next = taken.next;
     let mut out = [0u8; 20480];
-    let end = transcript_text::put_superframe(&mut out, 0, k, taken, &samples, &marks);
+    let placed = transcript_text::put_superframe(&mut out, 0, k, taken, &samples, &marks);
+    let end = placed.end;
     if end <= out.len() {
         io::write_all(1, &out[0..end]);
     }

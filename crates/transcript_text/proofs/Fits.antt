@@ -1,13 +1,14 @@
 -- How long the lines of a superframe are.
 --     Held t                what the machine's types say of an answer: small numbers are bytes, and there are six service bytes and three times eight counts
 --     superframe-fits       the lines have at most 18,537 characters
---     superframe-whole      so a buffer of 20,480 bytes holds them from its first byte on, and nothing is left out
+--     superframe-whole      so a buffer of 20,480 bytes holds them from its first byte on: they are not refused, and stand there
 -- Assumes nothing.
 use mathlib.Core.Path.{_≡_, ap, _∙_}
 use mathlib.Core.List.{List, [], _∷_, _++_}
 use Prim.Native.Nat.{ℕ, _*_, _^_, _≤_, _<_}
 use native.Mathlib.Nat.{zero-add}
 use native.Mathlib.Omega.{arith}
+use borrow.Author.Tests.{eq-eqb}
 use lib.Dec.{eqb}
 use lib.IntN.{ℤ}
 use lib.ListN.{length, drop, length-append}
@@ -15,9 +16,9 @@ use Rattle.bits.specs.Digits.{Below}
 use Rattle.bits.specs.Letters.{letters}
 use Rattle.bits.proofs.Tests.{either-way}
 use Rattle.text.specs.Digits.{decimal}
-use Rattle.text.specs.Page.{page, putText}
+use Rattle.text.specs.Page.{page}
 use Rattle.text.proofs.Decimal.{decimal-short}
-use Rattle.text.proofs.Pages.{put-fits}
+use Rattle.text.proofs.Entry.{entered-fits}
 use Rattle.text_rows.specs.Turns.{next}
 use Rattle.tally.specs.Totals.{sumOf}
 use Rattle.beside_text.specs.Lines.{besideText}
@@ -25,7 +26,7 @@ use Rattle.beside_text.proofs.Fits.{HeldBeside, beside-fits}
 use Rattle.frames_text.proofs.Fits.{Sixteen, frames-fit}
 use Rattle.tape.specs.declared.blocks.Blocks.{Blocks}
 use Rattle.superframe.specs.declared.taking.Taken.{Taken}
-use Rattle.transcript_text.specs.Superframe.{headLine, blocksLine, superframeText}
+use Rattle.transcript_text.specs.Superframe.{headLine, blocksLine, superframeText, enteredSuperframe}
 
 abbrev pub EightBytes : List ℕ → Type 0
 EightBytes counts = (length counts ≡ 8) × Below 256 counts
@@ -80,9 +81,12 @@ superframe-fits k t samples marks h held small =
 
 pub superframe-whole :
     (out : List ℕ) (k : ℕ) (t : Taken) (samples : List ℤ) (marks : List ℕ) → length out ≡ 20480 → k < 2 ^ 32 → Held t → Sixteen samples →
+    length samples ≡ 2048 → length marks ≡ 2048 →
     let s = superframeText k t samples marks in
-    putText (page out 0) s ≡ page (s ++ drop (length s) out) (length s)
-superframe-whole out k t samples marks room h held small =
+    enteredSuperframe (page out 0) k t samples marks ≡ record { number = 0; page = page (s ++ drop (length s) out) (length s) }
+unfolding enteredSuperframe
+superframe-whole out k t samples marks room h held small many marked =
     let s = superframeText k t samples marks in
     let fits = superframe-fits k t samples marks h held small in
-    put-fits out s 0 (omega (arith, fits, room)) ∙ ap (λ (n : ℕ). page (s ++ drop n out) n) (zero-add (length s))
+    rw (eq-eqb (length samples) 2048 many, eq-eqb (length marks) 2048 marked)
+    (entered-fits out s 0 (omega (arith, fits, room)) ∙ ap (λ (n : ℕ). record { number = 0; page = page (s ++ drop n out) n }) (zero-add (length s)))

@@ -1,9 +1,12 @@
 // The text of a transcript (second/README.md, "The transcript"): the lines of a superframe, put into a lent buffer.
 ghost use mathlib.Core.Path.{_≡_};
+ghost use lib.ListN.{length};
 ghost use Rattle.text.specs.Page.{page, putText};
-ghost use Rattle.transcript_text.specs.Superframe.{headLine, blocksLine, superframeText};
+ghost use Rattle.text.specs.Entry.{entered};
+ghost use Rattle.transcript_text.specs.Superframe.{headLine, blocksLine, superframeText, enteredSuperframe};
 use superframe::Taken;
 use tape::Blocks;
+use text::Placed;
 
 fn put_head(out: &mut [u8], to: usize, k: u32, number: u8) -> usize
     ensures { λ r. ⌜ page (now (out .exit)) r ≡ putText (page (now (out .entry)) to) (headLine k number) ⌝ }
@@ -28,8 +31,7 @@ fn put_blocks(out: &mut [u8], to: usize, blocks: Blocks) -> usize
     text::put(out, end, b'\n')
 }
 
-// The lines of superframe k from a place on; behind them is the place that is handed back.
-pub fn put_superframe(
+fn put_lines(
     out: &mut [u8],
     to: usize,
     k: u32,
@@ -37,6 +39,7 @@ pub fn put_superframe(
     samples: &[i16],
     marks: &[u8],
 ) -> usize
+    requires { ⌜ (length (now samples) ≡ 2048) × (length (now marks) ≡ 2048) ⌝ }
     ensures { λ r. ⌜ page (now (out .exit)) r ≡ putText (page (now (out .entry)) to) (superframeText k taken (now (samples .entry)) (now (marks .entry))) ⌝ }
 {
     let head = put_head(out, to, k, taken.number);
@@ -47,4 +50,31 @@ pub fn put_superframe(
     let beside = beside_text::put_beside(out, head, taken);
     let counted = put_blocks(out, beside, blocks);
     frames_text::put_frames(out, counted, samples, marks)
+}
+
+// The lines of superframe k from a place on. They are put first where there is no room for them, to learn where they end.
+pub fn put_superframe(
+    out: &mut [u8],
+    to: usize,
+    k: u32,
+    taken: Taken,
+    samples: &[i16],
+    marks: &[u8],
+) -> Placed
+    ensures { λ r. ⌜ entered r (now (out .exit)) ≡ enteredSuperframe (page (now (out .entry)) to) k taken (now (samples .entry)) (now (marks .entry)) ⌝ }
+{
+    if samples.len() != 2048 {
+        return Placed { number: 1, end: to };
+    }
+    if marks.len() != 2048 {
+        return Placed { number: 1, end: to };
+    }
+    let mut none = [0u8; 1];
+    let end = put_lines(&mut none, to, k, taken, samples, marks);
+    let placed = Placed::within(out.len(), to, end);
+    if placed.number != 0 {
+        return placed;
+    }
+    put_lines(out, to, k, taken, samples, marks);
+    placed
 }

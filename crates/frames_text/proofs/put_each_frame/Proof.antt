@@ -8,7 +8,7 @@ use lib.ListN.{length}
 use Rattle.text.specs.Page.{page, putText}
 use Rattle.text.proofs.Pages.{put-then}
 use Rattle.text_rows.specs.Turns.{inTurn}
-use Rattle.frames_text.specs.Frames.{marksLine, samplesLine, frameText}
+use Rattle.frames_text.specs.Frames.{marksLine, samplesLine, frameText, framesText}
 use Rattle.text_rows.proofs.Turns.{turn-more, part-cut}
 use borrow.Author.Needs.{needs}
 use Rattle.frames_text.proofs.put_each_frame.Statement.{statement}
@@ -83,6 +83,7 @@ same-length : tie.Need-same-length Inv-loop μ-loop
 same-length c = search needs
 
 returns : tie.Need-returns Inv-loop μ-loop
+unfolding framesText
 returns c =
     let l = c .before .loop in
     let start = c .before .before .before .before .args in

@@ -1,61 +1,43 @@
--- `listing_text::put_listing` meets its contract. Assumes nothing.
-use mathlib.Core.Path.{sym, ap, _∙_}
-use Rattle.text.specs.Page.{page, putText}
-use Rattle.reel.specs.Header.{headerAnswer}
-use Rattle.reel.specs.declared.HeaderRead.{HeaderRead}
-use Rattle.bits.specs.Letters.{letters}
-use Rattle.listing_text.specs.Listing.{listing}
+-- `listing_text::put_listing` meets its contract: the text, put where there is no room for it, says where it ends. Assumes nothing.
+use Rattle.text.proofs.Entry.{entered-short, entered-whole}
 use borrow.Author.Needs.{needs}
 use Rattle.listing_text.proofs.put_listing.Statement.{statement}
 use Rattle.listing_text.proofs.put_listing.Tie as tie
 
-enum-told : tie.Need-enum-told
-enum-told c = search needs
+slice-aggregate-put-lines : tie.Need-slice-aggregate-put-lines
+slice-aggregate-put-lines c = search needs
 
-slice-aggregate-put-line : tie.Need-slice-aggregate-put-line
-slice-aggregate-put-line c = search needs
+put-lines-requires : tie.Need-put-lines-requires
+put-lines-requires c κs = search needs
 
-put-line-requires : tie.Need-put-line-requires
-put-line-requires c κs = search needs
+within-requires : tie.Need-within-requires
+within-requires c κs = search needs
 
-enum-known-header : tie.Need-enum-known-header
-enum-known-header c = search needs
+returns : tie.Need-returns
+returns c =
+    let answered = c .before .before in
+    entered-short _ _ _ _ _ (answered .before .before .put-lines .ensures) _ (answered .within .ensures) (c .if1 .taken)
 
-put-totals-requires : tie.Need-put-totals-requires
-put-totals-requires c κs = search needs
+put-lines-requires-2 : tie.Need-put-lines-requires-2
+put-lines-requires-2 c κs = search needs
 
 same-length : tie.Need-same-length
 same-length c = search needs
 
-returns : tie.Need-returns
-unfolding listing letters
-returns c =
-    let start = c .before .before .before .before .before .before .before .before .args in
-    c .before .before .put-line .ensures
-    ∙ ap (λ (h : HeaderRead). putText (page (start .out .now) (start .to)) (listing (headerAnswer h) (start .totals)))
-    (sym (c .before .before .before .before .before .enum-told .given .1))
-
-same-length-2 : tie.Need-same-length-2
-same-length-2 c = search needs
-
 returns-2 : tie.Need-returns-2
-unfolding listing
 returns-2 c =
-    let start = c .before .before .before .before .before .before .before .before .args in
-    c .before .before .put-totals .ensures
-    ∙ ap (λ (h : HeaderRead). putText (page (start .out .now) (start .to)) (listing (headerAnswer h) (start .totals)))
-    (sym (c .before .before .before .before .before .header .given .1))
+    let tested = c .before .before .before .before in
+    let answered = tested .before .before in
+    entered-whole _ _ _ _ _ (answered .before .before .put-lines .ensures) _ (answered .within .ensures) _ (search needs) (tested .if1 .left) (c .before .before .put-lines2 .ensures)
 
 pub put-listing-spec : {M : Type 1} → statement M
 put-listing-spec =
     tie.close
     (tie.spec
-    enum-told
-    slice-aggregate-put-line
-    put-line-requires
-    enum-known-header
-    put-totals-requires
-    same-length
+    slice-aggregate-put-lines
+    put-lines-requires
+    within-requires
     returns
-    same-length-2
+    put-lines-requires-2
+    same-length
     returns-2)

@@ -1,14 +1,15 @@
 -- `tally::Totals::step` meets its contract. Assumes nothing.
 use Prim.Native.Nat.{ℕ}
 use mathlib.Core.Path.{_≡_, refl, sym, ap, _∙_}
-use mathlib.Core.Bool.{cond}
+use mathlib.Core.Bool.{Bool, true, false, cond}
 use mathlib.Core.List.{List}
 use mathlib.Core.Logic.{⊎-elim}
 use borrow.Author.Tests.{eq-eqb, ne-eqb}
 use lib.Dec.{eqb}
 use Rattle.tape.specs.Tape.{countsOf}
 use Rattle.tape.specs.declared.blocks.Counted.{Counted}
-use Rattle.tally.specs.Totals.{grown, withCounted, stepped}
+use Rattle.tally.specs.Totals.{grown, withCounted, stepped, stepOf}
+use Rattle.tally.specs.declared.Step.{Step}
 use Rattle.tally.specs.declared.Totals.{Totals}
 use borrow.Author.Needs.{needs}
 use Rattle.tally.proofs.Totals.step.Statement.{statement}
@@ -17,10 +18,14 @@ use Rattle.tally.proofs.Totals.step.Tie as tie
 counts-requires : tie.Need-counts-requires
 counts-requires c κs = search needs
 
+-- what is answered, by what was counted
+abbrev answered : Totals → Counted → Bool → Step
+answered t k none = record { number = cond none 1 0; next = cond none t (withCounted t k) }
+
 -- what is counted is what the definition counts
-told : (t : Totals) (sf : List ℕ) (k : Counted) → k ≡ countsOf sf → cond (eqb (k .number) 1) t (withCounted t k) ≡ stepped t sf
-unfolding stepped
-told t sf k e = ap (λ (k : Counted). cond (eqb (k .number) 1) t (withCounted t k)) e
+told : (t : Totals) (sf : List ℕ) (k : Counted) (none : Bool) → eqb (k .number) 1 ≡ none → k ≡ countsOf sf → answered t k none ≡ stepOf t sf
+unfolding stepOf stepped
+told t sf k none h e = sym (ap (answered t k) h) ∙ ap (λ (k : Counted). answered t k (eqb (k .number) 1)) e
 
 one-lost : (n : ℕ) → n ≡ 3 → _≡_ {A = ℕ} 1 (cond (eqb n 3) 1 0)
 one-lost n e = rw (eq-eqb n 3 e)
@@ -32,8 +37,7 @@ returns : tie.Need-returns
 returns c =
     let counted = c .before .counts in
     let start = c .before .before .before .args in
-    sym (ap (λ b. cond b (start .self) (withCounted (start .self) (counted .result))) (eq-eqb (counted .result .number) 1 (c .if1 .taken)))
-    ∙ told (start .self) (start .superframe .now) (counted .result) (counted .ensures)
+    told (start .self) (start .superframe .now) (counted .result) true (eq-eqb (counted .result .number) 1 (c .if1 .taken)) (counted .ensures)
 
 grow-requires : tie.Need-grow-requires
 grow-requires c κs = search needs
@@ -76,8 +80,7 @@ returns-2 c =
       c .before .before .grow4 .ensures ∙ ap (grown (start .self .mended)) (c .before .before .before .sum2 .ensures),
       c .grow5 .ensures ∙ ap (grown (start .self .bad)) (c .before .sum3 .ensures),
     )
-    (sym (ap (λ b. cond b (start .self) (withCounted (start .self) (counted .result))) (ne-eqb number 1 (joined .before .if1 .left)))
-    ∙ told (start .self) (start .superframe .now) (counted .result) (counted .ensures))
+    (told (start .self) (start .superframe .now) (counted .result) false (ne-eqb number 1 (joined .before .if1 .left)) (counted .ensures))
 
 pub step-spec : {M : Type 1} → statement M
 step-spec =
