@@ -1,4 +1,4 @@
--- The lines of what a superframe carries beside its sound, in a transcript (second/README.md, "The transcript"), each with its end.
+-- The lines of what a superframe carries beside its sound, in a transcript (docs/TRANSCRIPT.md), each with its end.
 --     nextHex bytes                     a blank, and bytes in hexadecimal
 --     serviceLine position number six   the position of the six service bytes, the number that serving them gave, and the bytes
 --     labelsLine complete labels        the 32 labels where they are handed out, else `none`

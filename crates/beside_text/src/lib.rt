@@ -1,4 +1,4 @@
-// The text of what a superframe carries beside its sound, in a transcript (second/README.md, "The transcript"): four lines, put into a lent buffer.
+// The text of what a superframe carries beside its sound, in a transcript (docs/TRANSCRIPT.md): four lines, put into a lent buffer.
 ghost use mathlib.Core.Path.{_≡_};
 ghost use Rattle.bits.specs.Digits.{digits};
 ghost use Rattle.text.specs.Page.{page, putText};

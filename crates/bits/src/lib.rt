@@ -1,4 +1,4 @@
-// Bits of bytes and bytes of bits (document 01, "Path of a reel"). Every function takes any slice and any place, and says what it gives past the end.
+// Bits of bytes and bytes of bits (docs/FORMAT.md, "Path of a reel"). Every function takes any slice and any place, and says what it gives past the end.
 ghost use mathlib.Core.Path.{_≡_};
 ghost use Prim.Native.Nat.{_+_, _%_};
 ghost use lib.ListN.{getD};

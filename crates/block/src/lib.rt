@@ -1,4 +1,4 @@
-// Reading a block: 77 bits held as [u8; 77], one number per bit (document 01, "The block").
+// Reading a block: 77 bits held as [u8; 77], one number per bit (docs/FORMAT.md, "The block").
 use reading::Places;
 ghost use mathlib.Core.Path.{_≡_};
 ghost use Prim.Native.Nat.{_<_};

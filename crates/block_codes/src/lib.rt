@@ -1,4 +1,4 @@
-// What a block carries: the 14-bit codes of four channels and two extra bits (document 01, "The block").
+// What a block carries: the 14-bit codes of four channels and two extra bits (docs/FORMAT.md, "The block").
 ghost use mathlib.Core.Path.{_≡_};
 ghost use mathlib.Core.Bool.{true};
 ghost use Prim.Native.Nat.{_<_};

@@ -1,4 +1,4 @@
-// Writing a block: 77 bits, one number per bit, of four codes and two extra bits (document 01, "The block").
+// Writing a block: 77 bits, one number per bit, of four codes and two extra bits (docs/FORMAT.md, "The block").
 ghost use mathlib.Core.Path.{_≡_};
 ghost use mathlib.Core.Bool.{_&&_};
 ghost use Prim.Native.Nat.{_<_};

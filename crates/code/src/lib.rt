@@ -1,4 +1,4 @@
-// The two codes of document 01: their generators as numbers, and the check bits and remainders that they give. An entry of bits that is
+// The two codes of document 01 (docs/FORMAT.md): their generators as numbers, and the check bits and remainders that they give. An entry of bits that is
 // neither 0 nor 1 counts as its lowest binary digit.
 ghost use mathlib.Core.Path.{_≡_};
 ghost use Rattle.bits.specs.Digits.{value};

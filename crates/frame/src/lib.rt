@@ -1,4 +1,4 @@
-// Main frames, their layout and how they are read (document 01, "Main frame"): 320 bits in 40 bytes, two kinds, A and B.
+// Main frames, their layout and how they are read (docs/FORMAT.md, "Main frame"): 320 bits in 40 bytes, two kinds, A and B.
 ghost use mathlib.Core.Path.{_≡_};
 ghost use Rattle.frame.specs.Frame.{syncWord, serviceIn};
 ghost use Rattle.frame.specs.Read.{wrongSync, serviceRead, blockOf, nothing, readFrame};

@@ -1,4 +1,4 @@
-// Main frames written (document 01, "Main frame"): their 320 bits put into 40 lent bytes.
+// Main frames written (docs/FORMAT.md, "Main frame"): their 320 bits put into 40 lent bytes.
 ghost use mathlib.Core.Path.{_≡_};
 ghost use mathlib.Core.List.{[], _∷_, _++_};
 ghost use lib.ListN.{length};

@@ -1,4 +1,4 @@
--- The lines of a superframe's sound in a transcript (second/README.md, "The transcript"), each with its end.
+-- The lines of a superframe's sound in a transcript (docs/TRANSCRIPT.md), each with its end.
 --     marksLine f marks             the marks of frame f
 --     samplesLine f samples         its samples
 --     frameText samples marks n     the two lines of frame n + 1: places count from 0, frames from 1

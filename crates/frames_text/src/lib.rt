@@ -1,4 +1,4 @@
-// The text of a superframe's sound in a transcript (second/README.md, "The transcript"): two lines for each frame, put into a lent buffer.
+// The text of a superframe's sound in a transcript (docs/TRANSCRIPT.md): two lines for each frame, put into a lent buffer.
 ghost use mathlib.Core.Path.{_≡_};
 ghost use lib.ListN.{length};
 ghost use Rattle.text.specs.Page.{page, putText};

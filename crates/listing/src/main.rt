@@ -1,4 +1,4 @@
-// Writes the listing of a reel that comes on standard input (document 01, "Reel file and listing").
+// Writes the listing of a reel that comes on standard input (docs/FORMAT.md, "Reel file and listing").
 use reel::HeaderRead;
 use tally::Totals;
 

@@ -1,4 +1,4 @@
-// The text of a listing (document 01, "Reel file and listing"), put into a lent buffer.
+// The text of a listing (docs/FORMAT.md, "Reel file and listing"), put into a lent buffer.
 ghost use mathlib.Core.Path.{_≡_};
 ghost use Rattle.text.specs.Page.{page, putText};
 ghost use Rattle.text.specs.Entry.{entered, enteredText};

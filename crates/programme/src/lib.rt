@@ -1,4 +1,4 @@
-// The programme byte and the short names of the programme types (document 01, "Service groups", last paragraph).
+// The programme byte and the short names of the programme types (docs/FORMAT.md, "Service groups", programme bytes).
 ghost use mathlib.Core.Path.{_≡_};
 ghost use Rattle.bits.specs.Bits.{ones};
 ghost use Rattle.programme.specs.Byte.{eight, readByte, writeByte, readAnswer, writeAnswer};

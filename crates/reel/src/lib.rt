@@ -1,4 +1,4 @@
-// The reel file's header, and runs of superframes (document 01, "Reel file and listing").
+// The reel file's header, and runs of superframes (docs/FORMAT.md, "Reel file and listing").
 ghost use mathlib.Core.Path.{_≡_};
 ghost use Prim.Native.Nat.{_+_, _<_, _≤_};
 ghost use lib.ListN.{length};

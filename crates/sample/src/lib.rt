@@ -1,4 +1,4 @@
-// Samples and their codes at a factor, and the factor of 64 samples (document 01, "Samples" and "Scale words").
+// Samples and their codes at a factor, and the factor of 64 samples (docs/FORMAT.md, "Samples" and "Scale words").
 pub mod pattern; // pattern.rt: a code as the number that its 14 bits make, and back
 
 ghost use mathlib.Core.Path.{_≡_};

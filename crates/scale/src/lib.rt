@@ -1,4 +1,4 @@
-// Scale words: the factors of a programme's two channels (document 01, "Scale words").
+// Scale words: the factors of a programme's two channels (docs/FORMAT.md, "Scale words").
 ghost use mathlib.Core.Path.{_≡_};
 ghost use Prim.Native.Nat.{_+_, _/_, _%_, _<_};
 ghost use lib.ListN.{getD};

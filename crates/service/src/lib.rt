@@ -1,4 +1,4 @@
-// The service machine (document 01, "Service groups"): what six service bytes and the sync behind them make of the group that is open
+// The service machine (docs/FORMAT.md, "Service groups"): what six service bytes and the sync behind them make of the group that is open
 // and of the labels gathered so far. Every function takes any numbers; what is out of its range is answered with number 2.
 ghost use mathlib.Core.Path.{_≡_};
 ghost use Rattle.service.specs.Service.{searchingService, inRange, accepts, refusedService, served};

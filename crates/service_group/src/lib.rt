@@ -1,4 +1,4 @@
-// What six service bytes do (document 01, "Service groups"): they go to their place in the open group, and a complete group brings the separator or a
+// What six service bytes do (docs/FORMAT.md, "Service groups"): they go to their place in the open group, and a complete group brings the separator or a
 // character for each label. Every function takes any numbers: at position 0, or over 8, the bytes are of no group, and a stage over 8 is past the labels.
 ghost use mathlib.Core.Path.{_≡_};
 ghost use Prim.Native.Nat.{_<_};

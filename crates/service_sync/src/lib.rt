@@ -1,4 +1,4 @@
-// The two syncs of the service (document 01, "Service groups"), and what one does behind the six bytes at a position: it opens a group,
+// The two syncs of the service (docs/FORMAT.md, "Service groups"), and what one does behind the six bytes at a position: it opens a group,
 // continues one, or drops. Every function takes any numbers: 16 that are no bits are neither sync, and no group is open behind a position over 8.
 ghost use mathlib.Core.Path.{_≡_};
 ghost use Rattle.service_sync.specs.Sync.{agree, kindOf, isOpen, nextPosition, dropsWith, numberOf};

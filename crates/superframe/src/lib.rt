@@ -1,4 +1,4 @@
-// The reader's state and what it does with a superframe (document 01, "Superframe").
+// The reader's state and what it does with a superframe (docs/FORMAT.md, "Superframe").
 mod state;
 mod taking;
 

@@ -1,4 +1,4 @@
-// The totals of a listing (document 01, "Reel file and listing"), which grow by one superframe at a time.
+// The totals of a listing (docs/FORMAT.md, "Reel file and listing"), which grow by one superframe at a time.
 ghost use mathlib.Core.Path.{_≡_};
 ghost use Prim.Native.Nat.{_<_};
 ghost use Rattle.tally.specs.Totals.{grown, sumOf, noTotals, stepOf};

@@ -1,4 +1,4 @@
-// The syncs and the blocks of a superframe, from its bytes alone (document 01, "Superframe").
+// The syncs and the blocks of a superframe, from its bytes alone (docs/FORMAT.md, "Superframe").
 mod blocks;
 mod frames;
 

@@ -1,5 +1,5 @@
 // Writes every answer of the reader, superframe by superframe, for the reel on standard input, so that a program that shares nothing with this
-// one can be compared with it. second/README.md, "The transcript", has the form of the lines.
+// one can be compared with it. docs/TRANSCRIPT.md has the form of the lines.
 use reel::HeaderRead;
 use superframe::State;
 

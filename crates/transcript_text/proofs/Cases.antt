@@ -1,4 +1,4 @@
--- The example of second/README.md, "The transcript", letter by letter: what the definitions give for the parts that it shows.
+-- Lines of a transcript (docs/TRANSCRIPT.md), letter by letter: what the definitions give for the parts that an example shows.
 -- Assumes nothing.
 use mathlib.Core.Path.{_≡_, refl}
 use mathlib.Core.Bool.{false}

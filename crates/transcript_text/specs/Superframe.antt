@@ -1,4 +1,4 @@
--- The lines of a superframe in a transcript (second/README.md, "The transcript"), each with its end.
+-- The lines of a superframe in a transcript (docs/TRANSCRIPT.md), each with its end.
 --     headLine k number                 superframe k, and the number that taking it gave
 --     blocksLine blocks                 how many of its blocks are clean, mended and bad
 --     superframeText k t samples marks  all lines of superframe k; the first alone where it was refused

@@ -1,4 +1,4 @@
-// The text of a transcript (second/README.md, "The transcript"): the lines of a superframe, put into a lent buffer.
+// The text of a transcript (docs/TRANSCRIPT.md): the lines of a superframe, put into a lent buffer.
 ghost use mathlib.Core.Path.{_≡_};
 ghost use lib.ListN.{length};
 ghost use Rattle.text.specs.Page.{page, putText};
