@@ -3,6 +3,7 @@
 --     mostWrong                  how many wrong bits a sync may have: it must match in all eleven
 --     serviceRead letter bytes   bit 12 of A, and 0 for B
 --     blockOf bytes b            block b + 1; bits past the end of the bytes are 0, and so is all of a block that a frame does not have
+--     gatheredOf bytes b         what asking for it answers: number 1 for another length than 40 bytes, then 2 for a block that a frame does not have
 --     blocksIn bytes             all four
 --     nothing n                  number n, and zeros in every other place
 --     found s blocks             number 0, a service bit and four blocks
@@ -19,6 +20,7 @@ use Rattle.remainder.specs.Polynomial.{zeros}
 use Rattle.code.specs.Words.{distance}
 use Rattle.frame.specs.Frame.{syncWord, serviceIn, block, deinterleave}
 use Rattle.frame.specs.declared.FrameRead.{FrameRead}
+use Rattle.frame.specs.declared.Gathered.{Gathered}
 use Rattle.frame.specs.declared.Letter.{Letter}
 
 unfoldable pub wrongSync : Letter → List ℕ → ℕ
@@ -32,6 +34,12 @@ serviceRead letter bytes = serviceIn letter (bitAt bytes 11)
 
 unfoldable pub blockOf : List ℕ → ℕ → List ℕ
 blockOf bytes b = cond (ltb b 4) (deinterleave (bitsOf bytes) b) (zeros 77)
+
+abbrev pub gathered : ℕ → List ℕ → Gathered
+gathered n bits = record { number = n; bits = bits }
+
+unfoldable pub gatheredOf : List ℕ → ℕ → Gathered
+gatheredOf bytes b = cond (eqb (length bytes) 40) (cond (ltb b 4) (gathered 0 (blockOf bytes b)) (gathered 2 (zeros 77))) (gathered 1 (zeros 77))
 
 abbrev pub blocksIn : List ℕ → List (List ℕ)
 blocksIn bytes = blockOf bytes 0 ∷ blockOf bytes 1 ∷ blockOf bytes 2 ∷ blockOf bytes 3 ∷ []

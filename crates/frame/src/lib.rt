@@ -1,7 +1,8 @@
 // Main frames, their layout and how they are read (docs/FORMAT.md, "Main frame"): 320 bits in 40 bytes, two kinds, A and B.
 ghost use mathlib.Core.Path.{_≡_};
+ghost use Prim.Native.Nat.{_<_};
 ghost use Rattle.frame.specs.Frame.{syncWord, serviceIn};
-ghost use Rattle.frame.specs.Read.{wrongSync, serviceRead, blockOf, nothing, readFrame};
+ghost use Rattle.frame.specs.Read.{wrongSync, serviceRead, blockOf, gatheredOf, nothing, readFrame};
 
 pub enum Letter {
     A,
@@ -16,6 +17,12 @@ pub struct FrameRead {
     pub second: [u8; 77],
     pub third: [u8; 77],
     pub fourth: [u8; 77],
+}
+
+// Number 0 and a block; or number 1 or 2 and zeros.
+pub struct Gathered {
+    pub number: u8,
+    pub bits: [u8; 77],
 }
 
 const SYNC_A: [u8; 11] = [1, 1, 1, 0, 0, 0, 1, 0, 0, 1, 0];
@@ -59,20 +66,18 @@ pub fn carried(letter: Letter, service: u8) -> u8
 }
 
 // Bit 12 of A; 0 for B.
-pub fn service_of(letter: Letter, bytes: &[u8]) -> u8
+fn service_of(letter: Letter, bytes: &[u8]) -> u8
     ensures { λ r. ⌜ r ≡ serviceRead letter (now (bytes .entry)) ⌝ }
 {
     carried(letter, bits::bit_of(bytes, 11))
 }
 
-// Block b, counted from 0, out of its pair; zeros where a frame has no such block.
-pub fn block_of(bytes: &[u8], b: usize) -> [u8; 77]
+// Block b, counted from 0, out of its pair.
+fn gather(bytes: &[u8], b: usize) -> [u8; 77]
+    requires { ⌜ b < 4 ⌝ }
     ensures { λ r. ⌜ r ≡ blockOf (now (bytes .entry)) b ⌝ }
 {
     let mut out = [0u8; 77];
-    if 4 <= b {
-        return out;
-    }
     let start = 12 + 154 * (b / 2) + b % 2;
     let mut j: usize = 0;
     while j < 77 {
@@ -80,6 +85,28 @@ pub fn block_of(bytes: &[u8], b: usize) -> [u8; 77]
         j += 1;
     }
     out
+}
+
+// A block out of a whole main frame.
+pub fn block_of(bytes: &[u8], b: usize) -> Gathered
+    ensures { λ r. ⌜ r ≡ gatheredOf (now (bytes .entry)) b ⌝ }
+{
+    if bytes.len() != 40 {
+        return Gathered {
+            number: 1,
+            bits: [0u8; 77],
+        };
+    }
+    if 4 <= b {
+        return Gathered {
+            number: 2,
+            bits: [0u8; 77],
+        };
+    }
+    Gathered {
+        number: 0,
+        bits: gather(bytes, b),
+    }
 }
 
 fn refused(number: u8) -> FrameRead
@@ -107,9 +134,9 @@ pub fn read(letter: Letter, bytes: &[u8]) -> FrameRead
     FrameRead {
         number: 0,
         service: service_of(letter, bytes),
-        first: block_of(bytes, 0),
-        second: block_of(bytes, 1),
-        third: block_of(bytes, 2),
-        fourth: block_of(bytes, 3),
+        first: gather(bytes, 0),
+        second: gather(bytes, 1),
+        third: gather(bytes, 2),
+        fourth: gather(bytes, 3),
     }
 }

@@ -3,6 +3,7 @@ ghost use mathlib.Core.Path.{_≡_};
 ghost use Prim.Native.Nat.{_<_};
 ghost use Rattle.bits.specs.Table.{tabulate};
 ghost use lib.Dec.{eqb};
+ghost use lib.ListN.{length};
 ghost use Rattle.tape.specs.Tape.{blockIn, toldMark, blockMark, quadIn, refusedQuad, quadAnswer, howMany, talliedBy, inEights, markAmong, gatheredFrom, refusedCounts, countsOf};
 use super::frames;
 use block::BlockReading;
@@ -29,11 +30,13 @@ pub struct Counted {
 
 // The block in position p of frame number f.
 fn block_at(sf: &[u8], f: u8, p: u8) -> [u8; 77]
+    requires { ⌜ (length (now sf) ≡ 5120) × (f < 64) × (p < 8) ⌝ }
     ensures { λ r. ⌜ r ≡ blockIn (now (sf .entry)) f p ⌝ }
 {
     let frame = (f as u16) + 64 * ((p / 4) as u16);
     let place = (p % 4) as usize;
-    frame::block_of(frames::frame_at(sf, frame), place)
+    let gathered = frame::block_of(frames::frame_at(sf, frame), place);
+    gathered.bits
 }
 
 // A block of a main frame is bits: the last case does not come.
@@ -50,6 +53,7 @@ fn mark_of(reading: BlockReading) -> u8
 
 // The block in position p of frame number f as it is read and handed on.
 fn quad_at(sf: &[u8], f: u8, p: u8) -> Quad
+    requires { ⌜ (length (now sf) ≡ 5120) × (f < 64) × (p < 8) ⌝ }
     ensures { λ r. ⌜ r ≡ quadIn (now (sf .entry)) f p ⌝ }
 {
     let read = block::read(block_at(sf, f, p));
@@ -92,6 +96,7 @@ pub fn read_at(sf: &[u8], f: u8, p: u8) -> Quad
 
 // The marks of all blocks, frame number by frame number.
 fn all_marks(sf: &[u8]) -> [u8; 512]
+    requires { ⌜ length (now sf) ≡ 5120 ⌝ }
     ensures { λ r. ⌜ r ≡ tabulate 512 (inEights (blockMark (now (sf .entry)))) ⌝ }
 {
     let mut out = [0u8; 512];

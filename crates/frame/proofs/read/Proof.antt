@@ -39,17 +39,17 @@ returns-2 c =
 service-of-requires : tie.Need-service-of-requires
 service-of-requires c κs = search needs
 
-block-of-requires : tie.Need-block-of-requires
-block-of-requires c κs = search needs
+gather-requires : tie.Need-gather-requires
+gather-requires c κs = search needs
 
-block-of-requires-2 : tie.Need-block-of-requires-2
-block-of-requires-2 c κs = search needs
+gather-requires-2 : tie.Need-gather-requires-2
+gather-requires-2 c κs = search needs
 
-block-of-requires-3 : tie.Need-block-of-requires-3
-block-of-requires-3 c κs = search needs
+gather-requires-3 : tie.Need-gather-requires-3
+gather-requires-3 c κs = search needs
 
-block-of-requires-4 : tie.Need-block-of-requires-4
-block-of-requires-4 c κs = search needs
+gather-requires-4 : tie.Need-gather-requires-4
+gather-requires-4 c κs = search needs
 
 returns-3 : tie.Need-returns-3
 unfolding readFrame
@@ -66,10 +66,10 @@ returns-3 c =
       eq-eqb (length (a .bytes .now)) 40 (omega arith),
       le-leb (wrongSync (a .letter) (a .bytes .now)) mostWrong (omega arith),
       service .service-of .ensures,
-      first .block-of .ensures,
-      second .block-of2 .ensures,
-      third .block-of3 .ensures,
-      c .block-of4 .ensures,
+      first .gather .ensures,
+      second .gather2 .ensures,
+      third .gather3 .ensures,
+      c .gather4 .ensures,
     )
 
 pub read-spec : {M : Type 1} → statement M
@@ -82,8 +82,8 @@ read-spec =
     refused-requires-2
     returns-2
     service-of-requires
-    block-of-requires
-    block-of-requires-2
-    block-of-requires-3
-    block-of-requires-4
+    gather-requires
+    gather-requires-2
+    gather-requires-3
+    gather-requires-4
     returns-3)
