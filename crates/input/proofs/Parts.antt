@@ -1,8 +1,9 @@
 -- Why a header is refused.
---     countAlone, offsetAlone, summaryAlone      a header that has one part of the given one, and is right otherwise
---     count-told, offset-told, summary-told      whether that is refused tells whether the part is good
---     isWhole                                    whether an ending is none of a fault
---     fault-none                                 nothing is wrong with a header exactly where reading it gives no number
+--     countAlone, offsetAlone      a header that has one part of the given one, and is right otherwise
+--     count-told, offset-told      whether that is refused tells whether the part is good
+--     rest-told                    where both are, whether the header is refused tells whether it names no summary
+--     isWhole                      whether an ending is that of a header with nothing wrong
+--     fault-none                   nothing is wrong with a header exactly where reading it gives no number
 -- Assumes nothing.
 use mathlib.Core.Path.{_≡_, refl, sym, ap, _∙_}
 use mathlib.Core.Bool.{Bool, true, false, cond, not, _&&_}
@@ -23,11 +24,6 @@ countAlone b = getD b 0 0 ∷ getD b 1 0 ∷ getD b 2 0 ∷ getD b 3 0 ∷ 0 ∷
 
 abbrev pub offsetAlone : List ℕ → List ℕ
 offsetAlone b = 0 ∷ 0 ∷ 0 ∷ 0 ∷ getD b 4 0 ∷ getD b 5 0 ∷ getD b 6 0 ∷ getD b 7 0 ∷ 0 ∷ 0 ∷ 0 ∷ 0 ∷ 0 ∷ 0 ∷ 0 ∷ 0 ∷ []
-
-abbrev pub summaryAlone : List ℕ → List ℕ
-summaryAlone b =
-    0 ∷ 0 ∷ 0 ∷ 0 ∷ 0 ∷ 0 ∷ 0 ∷ 16
-    ∷ getD b 8 0 ∷ getD b 9 0 ∷ getD b 10 0 ∷ getD b 11 0 ∷ getD b 12 0 ∷ getD b 13 0 ∷ getD b 14 0 ∷ getD b 15 0 ∷ []
 
 -- a test alone, and beside others that hold
 alone : (x : Bool) (l : List ℕ) → isRefused (cond x (accepted l) (refused 8)) ≡ not x
@@ -55,9 +51,14 @@ module _ (bytes : List ℕ) (r : Bool) where
   unfolding headerOf goodHeader numberAt value tabulate
   offset-told e = sym (ap not (e ∙ beside-true (leb 16 (numberAt bytes 4)) _) ∙ not-not _)
 
-  pub summary-told : r ≡ isRefused (headerOf (summaryAlone bytes)) → eqb (numberAt bytes 8) 0 && eqb (numberAt bytes 12) 0 ≡ not r
-  unfolding headerOf goodHeader numberAt value tabulate
-  summary-told e = sym (ap not (e ∙ alone (eqb (numberAt bytes 8) 0 && eqb (numberAt bytes 12) 0) _) ∙ not-not _)
+  -- in a header whose other parts are good
+  pub rest-told : leb 16 (length bytes) ≡ true → leb (numberAt bytes 0) mostSuperframes ≡ true → leb 16 (numberAt bytes 4) ≡ true
+      → r ≡ isRefused (headerOf bytes) → eqb (numberAt bytes 8) 0 && eqb (numberAt bytes 12) 0 ≡ not r
+  unfolding headerOf goodHeader
+  rest-told long count offset e =
+      let x : Bool = eqb (numberAt bytes 8) 0 && eqb (numberAt bytes 12) 0 in
+      let left : isRefused (headerOf bytes) ≡ not x = rw (long, count, offset) (alone x (numberAt bytes 0 ∷ numberAt bytes 4 ∷ [])) in
+      sym (ap not (e ∙ left) ∙ not-not x)
 
 abbrev pub isWhole : Ended → Bool
 isWhole Whole = true
