@@ -1,8 +1,9 @@
 -- How a program says that it ended.
 --     endingOf promised read     how a reel ends, by the superframes that its header promises and those that were read
---     errorLine word e       a word, a blank and C's number of an error, on a line
---     wordOf ended           what is said of each way to end, on a line
---     descriptorOf bytes     the descriptor that an argument names: one digit from 3 to 9, as 0, 1 and 2 are taken; 0 for anything else
+--     errorLine word e           a word, a blank and C's number of an error, on a line
+--     wordOf ended               what is said of each way to end, on a line
+--     descriptorOf bytes         the descriptor that an argument names: one digit from 3 to 9, as 0, 1 and 2 are taken; 0 for anything else
+-- No two ways to end are said in one word (`words-apart`), and a word has at most 17 letters (`error-fits`, both in proofs/Word.antt).
 use Prim.Native.Nat.{ℕ, _-_}
 use mathlib.Core.Bool.{cond}
 use mathlib.Core.List.{List, [], _∷_, _++_}

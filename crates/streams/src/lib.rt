@@ -5,6 +5,9 @@ mod progress;
 pub use progress::show;
 pub use progress::wipe;
 ghost use mathlib.Core.Path.{_≡_};
+ghost use Prim.Native.Nat.{_<_};
+ghost use lib.IntN.{pos};
+ghost use lib.ListN.{length};
 ghost use Rattle.io.specs.Counts.{Counts};
 ghost use Rattle.streams.specs.Error.{errorOf};
 
@@ -25,9 +28,10 @@ fn error_of(number: i32) -> u32
     number as u32
 }
 
-// Reads until the buffer is full, the input ends or a read fails.
+// Reads until the buffer is full, the input ends or a read fails. Where it is full, none failed.
 pub fn fill(fd: i32, buf: &mut [u8]) -> Filled
     ensures { λ r. ⌜ Counts (r .n) (now (buf .exit)) ⌝ }
+    ensures { λ r. ⌜ (r .n ≡ length (now (buf .exit)) → r .error ≡ 0) ⌝ }
 {
     let mut n: usize = 0;
     while n < buf.len() {
@@ -55,8 +59,10 @@ pub fn write(fd: i32, bytes: &[u8]) -> u32 {
     error_of(os::errno())
 }
 
-// Writes the bytes of a page before a place. A place behind the page is none, and nothing is written.
-pub fn write_first(fd: i32, page: &[u8], end: usize) -> u32 {
+// Writes the bytes of a page before a place. A place behind the page is none: nothing is written, and that is an error.
+pub fn write_first(fd: i32, page: &[u8], end: usize) -> u32
+    ensures { λ r. ⌜ (length (now (page .entry)) < end → r ≡ errorOf (pos 0)) ⌝ }
+{
     if end <= page.len() {
         return write(fd, &page[0..end]);
     }

@@ -1,5 +1,5 @@
 -- `streams::fill` meets its contract. Assumes nothing.
-use mathlib.Core.Path.{_≡_, sym}
+use mathlib.Core.Path.{_≡_, refl, sym}
 use Prim.Native.Nat.{_-_, _≤_}
 use native.Mathlib.Omega.{arith}
 use lib.ListN.{length}
@@ -39,7 +39,7 @@ same-length : tie.Need-same-length Inv-loop μ-loop
 same-length c = search needs
 
 returns : tie.Need-returns Inv-loop μ-loop
-returns c = (search needs, sym (length-take-le _ _ (omega arith)))
+returns c = ((search needs, sym (length-take-le _ _ (omega arith))), λ e. omega (arith, e))
 
 sub-count : tie.Need-sub-count Inv-loop μ-loop
 sub-count c = search needs
@@ -66,13 +66,13 @@ same-length-2 : tie.Need-same-length-2 Inv-loop μ-loop
 same-length-2 c = search needs
 
 returns-2 : tie.Need-returns-2 Inv-loop μ-loop
-returns-2 c = (search needs, sym (length-take-le _ _ (omega arith)))
+returns-2 c = ((search needs, sym (length-take-le _ _ (omega arith))), λ e. refl)
 
 same-length-3 : tie.Need-same-length-3 Inv-loop μ-loop
 same-length-3 c = search needs
 
 returns-3 : tie.Need-returns-3 Inv-loop μ-loop
-returns-3 c = (search needs, sym (length-take-le _ _ (omega arith)))
+returns-3 c = ((search needs, sym (length-take-le _ _ (omega arith))), λ e. refl)
 
 pub fill-spec : {M : Type 1} → statement M
 fill-spec =
