@@ -2,6 +2,8 @@
 --     extra-stands          bit f of programme q's 64 is the extra bit of the block that carries it: "the first extra bit belongs to the first programme, the
 --                           second to the second"
 --     five-missing          "inside a superframe that programme's factors are missing", both of them
+--     service-stands, six-stands, sync-stands     service bit f is bit 12 of main frame f of A; "service bits 1 to 48 of a superframe are six data bytes, and
+--                           bits 49 to 64 are the sync"
 --     factor-there          and where there is no number they are those that the extra bits read as
 -- Assumes nothing.
 use mathlib.Core.Path.{_≡_, sym, ap, ap₂, _∙_}
@@ -10,15 +12,20 @@ use mathlib.Core.List.{List}
 use Prim.Native.Nat.{ℕ, _+_, _-_, _*_, _/_, _%_, _<_, _≤_}
 use native.Mathlib.Omega.{arith}
 use borrow.Author.Tests.{eq-eqb, ne-eqb}
-use lib.ListN.{getD}
-use Rattle.bits.proofs.Table.{getD-tab}
+use lib.ListN.{length, getD, take}
+use lib.Seq.{getD-drop}
+use Rattle.bits.specs.Bits.{bitsOf, byteAt}
+use Rattle.bits.proofs.Bits.{bitsOf-at}
+use Rattle.bits.proofs.Table.{length-tab, getD-tab}
 use Rattle.scale.specs.declared.Extra.{Extra}
-use Rattle.frame.specs.Read.{blockOf}
+use Rattle.frame.specs.Frame.{serviceIn}
+use Rattle.frame.specs.Read.{serviceRead, blockOf}
 use Rattle.tape.specs.Tape.{frameAt, blockIn}
 use Rattle.tape.specs.Document.{entry, channelOf, Carries, a-first, a-second, b-first, b-second}
 use Rattle.tape.proofs.Carried.{carried}
-use Rattle.beside.specs.Beside.{extraBit, extraBits, extraOf, factorOr, sideOf, factorRead, numberAt, programmesOf}
+use Rattle.beside.specs.Beside.{extraBit, extraBits, extraOf, factorOr, sideOf, factorRead, numberAt, programmesOf, serviceBit, serviceBits, sixOf, syncOf, sixAndSync}
 use Rattle.beside.specs.Document.{missing, extraNumber}
+use Rattle.beside.proofs.Carried.{byte-there, six-there}
 
 -- ---- extra bits
 module _ (sf : List ℕ) (f b : ℕ) (k : 1 ≤ f) (l : f ≤ 64) (m : 1 ≤ b) (u : b ≤ 4) where
@@ -61,3 +68,26 @@ module _ (sf : List ℕ) (q side : ℕ) (k : 1 ≤ q) (l : q ≤ 16) (m : 1 ≤ 
   factor-there h =
       let which : channel % 2 ≡ side - 1 = omega arith in
       factor-is ∙ rw (programme, which, eq-eqb (extraOf sf (q - 1) .number) 0 (sym number-is ∙ h))
+
+-- ---- service bits
+module _ (sf : List ℕ) where
+  service-long : length (serviceBits sf) ≡ 64
+  unfolding serviceBits
+  service-long = length-tab 64 (serviceBit sf)
+
+  pub service-stands : (f : ℕ) → 1 ≤ f → f ≤ 64 → entry (serviceBits sf) f 0 ≡ entry (bitsOf (frameAt sf (f - 1))) 12 0
+  unfolding serviceBits serviceBit serviceRead serviceIn
+  service-stands f k l = getD-tab 64 (serviceBit sf) (f - 1) 0 (omega arith) ∙ sym (bitsOf-at (frameAt sf (f - 1)) 11)
+
+  pub six-stands : (i : ℕ) → 1 ≤ i → i ≤ 6 → entry (sixAndSync sf .six) i 0 ≡ byteAt (serviceBits sf) (8 * (i - 1))
+  unfolding sixAndSync
+  six-stands i k l =
+      ap (λ (bytes : List ℕ). getD bytes (i - 1) 0) (sym (six-there (serviceBits sf) service-long))
+      ∙ getD-tab 6 (λ i. byteAt (take 48 (serviceBits sf)) (8 * i)) (i - 1) 0 (omega arith)
+      ∙ sym (byte-there (serviceBits sf) (i - 1) (omega arith))
+
+  pub sync-stands : (j : ℕ) → 1 ≤ j → j ≤ 16 → entry (sixAndSync sf .sync) j 0 ≡ entry (serviceBits sf) (48 + j) 0
+  unfolding sixAndSync syncOf
+  sync-stands j k l =
+      let at : 48 + (j - 1) ≡ 48 + j - 1 = omega arith in
+      getD-drop 48 (serviceBits sf) (j - 1) 0 ∙ ap (λ (n : ℕ). getD (serviceBits sf) n 0) at

@@ -1,79 +1,89 @@
-// Writes the listing of a reel that comes on standard input (docs/FORMAT.md, "Reel file and listing").
+// Writes the listing of a reel that comes on standard input (docs/FORMAT.md, "Reel file and listing"), and says how that ended.
+use ending::Ended;
 use reel::HeaderRead;
 use tally::Totals;
 
-// How many superframes go by between two words to whoever watches.
-const OFTEN: u32 = 512;
-
-fn write_first(fd: i32, out: &[u8], end: usize) {
-    if end <= out.len() {
-        io::write_all(fd, &out[0..end]);
-    }
-}
-
-// Every so often, on one line of standard error, where that is a terminal.
-fn show(done: u32, count: u32) {
-    if done % OFTEN != 0 {
-        return;
-    }
-    if libc::isatty(2) == 0 {
-        return;
-    }
-    let mut out = [0u8; 64];
-    let read = text::put_number(&mut out, 0, done as u64);
-    let of = text::put_all(&mut out, read, b" of ");
-    let number = text::put_number(&mut out, of, count as u64);
-    let end = text::put_all(&mut out, number, b" superframes\r");
-    write_first(2, &out, end);
-}
-
-// The line is wiped before the listing comes.
-fn wipe(done: u32) {
-    if done < OFTEN {
-        return;
-    }
-    if libc::isatty(2) == 0 {
-        return;
-    }
-    io::write_all(2, b"                                \r");
+struct Counted {
+    totals: Totals,
+    // of a read that failed, else 0
+    error: u32,
 }
 
 // The whole superframes that come, at most as many as the header promises.
-fn totals_of(count: u32) -> Totals {
+fn totals_of(count: u32) -> Counted {
     let mut totals = Totals::none();
+    let mut error: u32 = 0;
     let mut done: u32 = 0;
     while done < count {
         let mut superframe = [0u8; 5120];
-        let got = io::read_full(0, &mut superframe);
-        if got < 5120 {
+        let filled = streams::fill(0, &mut superframe);
+        if filled.n < 5120 {
+            error = filled.error;
             break;
         }
         let stepped = totals.step(&superframe);
         totals = stepped.next;
         done += 1;
-        show(done, count);
+        streams::show(done, count);
     }
-    wipe(done);
-    totals
+    streams::wipe(done);
+    Counted {
+        totals: totals,
+        error: error,
+    }
 }
 
-fn read(header: HeaderRead) -> Totals {
+// Writes the listing, behind which nothing is left but how it ended.
+fn write_listing(header: HeaderRead, totals: Totals, ended: Ended) -> Ended {
+    let mut out = [0u8; 192];
+    let placed = listing_text::put_listing(&mut out, 0, header, totals);
+    let error = streams::write_first(1, &out, placed.end);
+    if error != 0 {
+        return Ended::NotWritten(error);
+    }
+    ended
+}
+
+// With a count of 0 nothing more is read.
+fn list_superframes(count: u32, offset: u32) -> Counted {
+    if count == 0 {
+        return totals_of(0);
+    }
+    let error = input::skip_to(offset);
+    if error != 0 {
+        return Counted {
+            totals: Totals::none(),
+            error: error,
+        };
+    }
+    totals_of(count)
+}
+
+fn list_reel(header: HeaderRead, count: u32, offset: u32) -> Ended {
+    let counted = list_superframes(count, offset);
+    let error = counted.error;
+    if error != 0 {
+        return Ended::NotRead(error);
+    }
+    let totals = counted.totals;
+    let ended = ending::ending_of(count, totals.superframes);
+    write_listing(header, totals, ended)
+}
+
+fn list() -> Ended {
+    let start = input::header();
+    let error = start.error;
+    if error != 0 {
+        return Ended::NotRead(error);
+    }
+    let header = start.header;
+    let fault = start.fault;
     match header {
-        HeaderRead::NoHeader => Totals::none(),
-        HeaderRead::Reel { count, offset } => {
-            if count == 0 {
-                return Totals::none();
-            }
-            input::skip_to(offset);
-            totals_of(count)
-        }
+        HeaderRead::NoHeader => write_listing(header, Totals::none(), fault),
+        HeaderRead::Reel { count, offset } => list_reel(header, count, offset),
     }
 }
 
 fn main() {
-    let header = input::header();
-    let totals = read(header);
-    let mut out = [0u8; 192];
-    let placed = listing_text::put_listing(&mut out, 0, header, totals);
-    write_first(1, &out, placed.end);
+    ending::say(list());
 }

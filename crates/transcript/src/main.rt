@@ -1,55 +1,117 @@
 // Writes every answer of the reader, superframe by superframe, for the reel on standard input, so that a program that shares nothing with this
-// one can be compared with it. docs/TRANSCRIPT.md has the form of the lines.
+// one can be compared with it, and says how that ended. docs/TRANSCRIPT.md has the form of the lines.
+use ending::Ended;
 use reel::HeaderRead;
 use superframe::State;
 
-// Superframe k, and the state that the next one is taken with. Its lines have at most 18,537 characters (`superframe-fits` in transcript_text).
-fn write_superframe(k: u32, state: State, bytes: &[u8; 5120]) -> State {
+struct Written {
+    next: State,
+    error: u32,
+}
+
+// Superframe k, and the state that the next one is taken with. Its lines have at most 18,537 characters (`superframe-whole` in transcript_text).
+fn write_superframe(k: u32, state: State, bytes: &[u8; 5120]) -> Written {
     let mut samples = [0i16; 2048];
     let mut marks = [0u8; 2048];
     let taken = state.take(bytes, &mut samples, &mut marks);
     let next = taken.next;
     let mut out = [0u8; 20480];
     let placed = transcript_text::put_superframe(&mut out, 0, k, taken, &samples, &marks);
-    let end = placed.end;
-    if end <= out.len() {
-        io::write_all(1, &out[0..end]);
+    Written {
+        next: next,
+        error: streams::write_first(1, &out, placed.end),
     }
-    next
 }
 
-// Whether as many superframes were there.
-fn write_superframes(count: u32) -> bool {
+// Where the text itself goes to a terminal, nothing else is shown there.
+fn show(k: u32, count: u32) {
+    if libc::isatty(1) == 0 {
+        streams::show(k, count);
+    }
+}
+
+fn wipe(k: u32) {
+    if libc::isatty(1) == 0 {
+        streams::wipe(k);
+    }
+}
+
+// How the superframes ended that were not all there: they ran out, or a read failed.
+fn stopped(error: u32) -> Ended {
+    if error != 0 {
+        return Ended::NotRead(error);
+    }
+    Ended::Short
+}
+
+// The superframes that come, at most as many as the header promises.
+fn write_superframes(count: u32) -> Ended {
     let mut state = State::fresh();
     let mut k: u32 = 0;
     while k < count {
         let mut bytes = [0u8; 5120];
-        if io::read_full(0, &mut bytes) < 5120 {
-            return false;
+        let filled = streams::fill(0, &mut bytes);
+        if filled.n < 5120 {
+            wipe(k);
+            return stopped(filled.error);
         }
         k += 1;
-        state = write_superframe(k, state, &bytes);
+        let written = write_superframe(k, state, &bytes);
+        let error = written.error;
+        if error != 0 {
+            wipe(k);
+            return Ended::NotWritten(error);
+        }
+        state = written.next;
+        show(k, count);
     }
-    true
+    wipe(k);
+    Ended::Whole
+}
+
+// The last line, and how all of it ended.
+fn write_end(line: &[u8], ended: Ended) -> Ended {
+    let error = streams::write(1, line);
+    if error != 0 {
+        return Ended::NotWritten(error);
+    }
+    ended
+}
+
+fn finish(ended: Ended) -> Ended {
+    match ended {
+        Ended::Whole => write_end(b"end ok\n", ended),
+        Ended::Short => write_end(b"end short\n", ended),
+        _ => ended,
+    }
 }
 
 // With a count of 0 nothing more is read.
-fn write_reel(count: u32, offset: u32) {
-    if 0 < count {
-        input::skip_to(offset);
+fn write_reel(count: u32, offset: u32) -> Ended {
+    if count == 0 {
+        return finish(Ended::Whole);
     }
-    if write_superframes(count) {
-        io::write_all(1, b"end ok\n");
-    } else {
-        io::write_all(1, b"end short\n");
+    let error = input::skip_to(offset);
+    if error != 0 {
+        return Ended::NotRead(error);
+    }
+    finish(write_superframes(count))
+}
+
+fn write() -> Ended {
+    let start = input::header();
+    let error = start.error;
+    if error != 0 {
+        return Ended::NotRead(error);
+    }
+    let fault = start.fault;
+    let header = start.header;
+    match header {
+        HeaderRead::Reel { count, offset } => write_reel(count, offset),
+        HeaderRead::NoHeader => write_end(b"refused 8\n", fault),
     }
 }
 
 fn main() {
-    match input::header() {
-        HeaderRead::Reel { count, offset } => write_reel(count, offset),
-        HeaderRead::NoHeader => {
-            io::write_all(1, b"refused 8\n");
-        }
-    }
+    ending::say(write());
 }

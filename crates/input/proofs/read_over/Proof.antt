@@ -9,20 +9,20 @@ use Rattle.input.proofs.read_over.Tie as tie
 least-requires : tie.Need-least-requires
 least-requires c κs = search needs
 
-slice-relend-prefix-read-full : tie.Need-slice-relend-prefix-read-full
-slice-relend-prefix-read-full c = search needs
+slice-relend-prefix-fill : tie.Need-slice-relend-prefix-fill
+slice-relend-prefix-fill c = search needs
 
-slice-aggregate-read-full : tie.Need-slice-aggregate-read-full
-slice-aggregate-read-full c = sym (length-take-le _ _ (omega arith))
+slice-aggregate-fill : tie.Need-slice-aggregate-fill
+slice-aggregate-fill c = sym (length-take-le _ _ (omega arith))
 
-read-full-requires : tie.Need-read-full-requires
-read-full-requires c κs = search needs
+fill-requires : tie.Need-fill-requires
+fill-requires c κs = search needs
 
 least-requires-2 : tie.Need-least-requires-2
 least-requires-2 c κs = search needs
 
-cast-result : tie.Need-cast-result
-cast-result c = search needs
+cast-t9 : tie.Need-cast-t9
+cast-t9 c = search needs
 
 same-length : tie.Need-same-length
 same-length c = search needs
@@ -35,10 +35,10 @@ read-over-spec =
     tie.close
     (tie.spec
     least-requires
-    slice-relend-prefix-read-full
-    slice-aggregate-read-full
-    read-full-requires
+    slice-relend-prefix-fill
+    slice-aggregate-fill
+    fill-requires
     least-requires-2
-    cast-result
+    cast-t9
     same-length
     returns)

@@ -22,6 +22,9 @@ slice-aggregate-read-over c = search needs
 read-over-requires : tie.Need-read-over-requires Inv-loop μ-loop
 read-over-requires c κs = search needs
 
+returns : tie.Need-returns Inv-loop μ-loop
+returns c = search needs
+
 sub-left : tie.Need-sub-left Inv-loop μ-loop
 sub-left c = search needs
 
@@ -31,11 +34,11 @@ loop-less c = search needs
 loop-again : tie.Need-loop-again Inv-loop μ-loop
 loop-again c = search needs
 
-returns : tie.Need-returns Inv-loop μ-loop
-returns c = search needs
-
 returns-2 : tie.Need-returns-2 Inv-loop μ-loop
 returns-2 c = search needs
+
+returns-3 : tie.Need-returns-3 Inv-loop μ-loop
+returns-3 c = search needs
 
 pub skip-spec : {M : Type 1} → statement M
 skip-spec =
@@ -47,8 +50,9 @@ skip-spec =
     buffer-requires
     slice-aggregate-read-over
     read-over-requires
+    returns
     sub-left
     loop-less
     loop-again
-    returns
-    returns-2)
+    returns-2
+    returns-3)

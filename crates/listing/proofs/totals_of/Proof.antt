@@ -5,10 +5,10 @@ use Rattle.listing.proofs.totals_of.Statement.{statement}
 use Rattle.listing.proofs.totals_of.Tie as tie
 
 abbrev Inv-loop : tie.InvT-loop
-Inv-loop count totals₀ done₀ totals done = done ≤ count
+Inv-loop count totals₀ error₀ done₀ totals error done = done ≤ count
 
 abbrev μ-loop : tie.MeasureT-loop
-μ-loop count totals₀ done₀ totals done = count - done
+μ-loop count totals₀ error₀ done₀ totals error done = count - done
 
 none-requires : tie.Need-none-requires Inv-loop μ-loop
 none-requires c κs = search needs
@@ -16,11 +16,11 @@ none-requires c κs = search needs
 loop-holds : tie.Need-loop-holds Inv-loop μ-loop
 loop-holds c = search needs
 
-slice-aggregate-read-full : tie.Need-slice-aggregate-read-full Inv-loop μ-loop
-slice-aggregate-read-full c = search needs
+slice-aggregate-fill : tie.Need-slice-aggregate-fill Inv-loop μ-loop
+slice-aggregate-fill c = search needs
 
-read-full-requires : tie.Need-read-full-requires Inv-loop μ-loop
-read-full-requires c κs = search needs
+fill-requires : tie.Need-fill-requires Inv-loop μ-loop
+fill-requires c κs = search needs
 
 slice-aggregate-step : tie.Need-slice-aggregate-step Inv-loop μ-loop
 slice-aggregate-step c = search needs
@@ -54,8 +54,8 @@ totals-of-spec =
     μ-loop
     none-requires
     loop-holds
-    slice-aggregate-read-full
-    read-full-requires
+    slice-aggregate-fill
+    fill-requires
     slice-aggregate-step
     step-requires
     add-done

@@ -1,0 +1,11 @@
+-- Any two results that meet the promise are the same: for `fault_of`, `fault-of-unique`. What `header` makes of bytes from outside is unique for those
+-- bytes, by this and by `read-header-unique` of `reel`. Assumes nothing.
+use mathlib.Core.Path.{_≡_}
+use mathlib.Core.List.{List}
+use Prim.Native.Nat.{ℕ}
+use Rattle.bits.proofs.Unique.{same}
+use Rattle.ending.specs.declared.Ended.{Ended}
+use Rattle.input.specs.Fault.{faultOf}
+
+pub fault-of-unique : (bytes : List ℕ) (r r' : Ended) → r ≡ faultOf bytes → r' ≡ faultOf bytes → r ≡ r'
+fault-of-unique bytes r r' = same
