@@ -21,11 +21,7 @@ are-bits-requires c κs = search needs
 
 returns : tie.Need-returns
 unfolding scaleAnswer
-returns c =
-    let looked = c .before in
-    let bits = looked .before .before .args .t1 in
-    let none : areBits bits ≡ false = sym (looked .are-bits .ensures) ∙ not-true _ (c .if1 .taken) in
-    rw none
+returns c = let looked = c .before in rw (sym (looked .are-bits .ensures) ∙ not-true _ (c .if1 .taken))
 
 slice-aggregate-majority-of : tie.Need-slice-aggregate-majority-of
 slice-aggregate-majority-of c = search needs
