@@ -24,7 +24,7 @@ use Rattle.bits.specs.Digits.{value, Below}
 use Rattle.bits.proofs.Digits.{getD-digits, digits-value, below-append, below-take, below-drop}
 use Rattle.sample.specs.Pattern.{codeBits}
 use Rattle.sample.proofs.Patterns.{length-codeBits, below-codeBits}
-use Rattle.block.specs.Layout.{joined, upper, lower, sound, rest, blockOf, fourteen, placeOf}
+use Rattle.block.specs.Layout.{joined, upper, lower, sound, rest, blockWith, fourteen, placeOf}
 use Rattle.block.proofs.Joined.{length-joined, getD-joined, below-joined}
 
 length-upper : (c : ℤ) → length (upper c) ≡ 11
@@ -83,19 +83,19 @@ module _ (codes : List ℤ) (extra : List ℕ) (four : length codes ≡ 4) where
   unfolding encode
   length-63 = length-append (sound codes) check ∙ omega (arith, length-44, length-19)
 
-  pub length-block : length (blockOf codes extra) ≡ 75 + length extra
-  unfolding blockOf
+  pub length-block : length (blockWith codes extra) ≡ 75 + length extra
+  unfolding blockWith
   length-block =
       length-append (encode blockGenerator (sound codes)) (rest codes ++ extra)
       ∙ rw (length-63, length-append (rest codes) extra, length-12) (omega arith)
 
-  pub at-sound : (j : ℕ) → j < 44 → getD (sound codes) j 0 ≡ getD (blockOf codes extra) j 0
-  unfolding blockOf encode
+  pub at-sound : (j : ℕ) → j < 44 → getD (sound codes) j 0 ≡ getD (blockWith codes extra) j 0
+  unfolding blockWith encode
   at-sound j h =
       sym (getD-front (sound codes ++ check) (rest codes ++ extra) 63 j 0 length-63 (omega arith) ∙ getD-front (sound codes) check 44 j 0 length-44 h)
 
-  pub at-check : (j : ℕ) → 44 ≤ j → j < 63 → value 2 check / 2 ^ (62 - j) % 2 ≡ getD (blockOf codes extra) j 0
-  unfolding blockOf encode
+  pub at-check : (j : ℕ) → 44 ≤ j → j < 63 → value 2 check / 2 ^ (62 - j) % 2 ≡ getD (blockWith codes extra) j 0
+  unfolding blockWith encode
   at-check j l h =
       let back : 62 - j ≡ 19 - 1 - (j - 44) = omega arith in
       let digit = getD-digits 2 19 (value 2 check) (j - 44) (omega arith) in
@@ -104,16 +104,16 @@ module _ (codes : List ℤ) (extra : List ℕ) (four : length codes ≡ 4) where
       ∙ ap (λ (c : List ℕ). getD c (j - 44) 0) (sym (digits-value 2 19 check (below-check blockGenerator (sound codes)) length-19))
       ∙ digit ∙ ap (λ (n : ℕ). value 2 check / 2 ^ n % 2) (sym back))
 
-  pub at-rest : (j : ℕ) → 63 ≤ j → j < 75 → getD (codeBits (getD codes ((j - 63) / 3) (pos 0))) (11 + (j - 63) % 3) 0 ≡ getD (blockOf codes extra) j 0
-  unfolding blockOf
+  pub at-rest : (j : ℕ) → 63 ≤ j → j < 75 → getD (codeBits (getD codes ((j - 63) / 3) (pos 0))) (11 + (j - 63) % 3) 0 ≡ getD (blockWith codes extra) j 0
+  unfolding blockWith
   at-rest j l h =
       rest-at codes (j - 63) (omega arith)
       ∙ sym
       (getD-back (encode blockGenerator (sound codes)) (rest codes ++ extra) 63 j 0 length-63 l
       ∙ getD-front (rest codes) extra 12 (j - 63) 0 length-12 (omega arith))
 
-  pub at-extra : (j : ℕ) → 75 ≤ j → getD extra (j - 75) 0 ≡ getD (blockOf codes extra) j 0
-  unfolding blockOf
+  pub at-extra : (j : ℕ) → 75 ≤ j → getD extra (j - 75) 0 ≡ getD (blockWith codes extra) j 0
+  unfolding blockWith
   at-extra j l =
       let two : j - 63 - 12 ≡ j - 75 = omega arith in
       sym

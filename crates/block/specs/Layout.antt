@@ -4,7 +4,7 @@
 --     upper c, lower c  the upper 11 bits and the lower 3 of a 14-bit code, highest first
 --     sound codes       the 44 protected sound bits: the upper bits of the four codes, code by code
 --     rest codes        the 12 unprotected ones: their lower bits, code by code
---     blockOf codes extra     the block
+--     blockWith codes extra   the block
 --     fourteen block c  the 14 bits of channel c: its 11 among the first 44, its 3 among the 12
 --     placeOf c k       where bit k of them stands in the block
 use Prim.Native.Nat.{ℕ, _+_, _*_}
@@ -33,8 +33,8 @@ sound codes = joined (map upper codes)
 unfoldable pub rest : List ℤ → List ℕ
 rest codes = joined (map lower codes)
 
-unfoldable pub blockOf : List ℤ → List ℕ → List ℕ
-blockOf codes extra = encode blockGenerator (sound codes) ++ (rest codes ++ extra)
+unfoldable pub blockWith : List ℤ → List ℕ → List ℕ
+blockWith codes extra = encode blockGenerator (sound codes) ++ (rest codes ++ extra)
 
 unfoldable pub fourteen : List ℕ → ℕ → List ℕ
 fourteen block c = take 11 (drop (11 * c) block) ++ take 3 (drop (63 + 3 * c) block)

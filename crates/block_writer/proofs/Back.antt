@@ -29,7 +29,7 @@ use Rattle.code.proofs.Words.{encode-word}
 use Rattle.sample.specs.Sample.{isCode}
 use Rattle.sample.specs.Pattern.{codeBits, bitsCode}
 use Rattle.sample.proofs.Patterns.{signed-inside, code-bits-back, bits-code-back, length-codeBits}
-use Rattle.block.specs.Layout.{sound, rest, blockOf, fourteen, placeOf}
+use Rattle.block.specs.Layout.{sound, rest, blockWith, fourteen, placeOf}
 use Rattle.block.specs.Read.{clean, protected, saidOf, handedOn}
 use Rattle.block.specs.Demand.{IsBlock}
 use Rattle.block.proofs.Places.{length-sound, below-sound, sound-at, length-rest, below-rest, rest-at, length-63, length-block, at-sound, at-rest, length-fourteen, below-fourteen, fourteen-at}
@@ -38,13 +38,13 @@ use Rattle.block_codes.specs.Codes.{codeAt, codesAt, extraAt, codesOf}
 use Rattle.block_writer.specs.Written.{writtenBlock}
 
 -- ---- what is written
-pub written-is : (codes : List ℤ) (extra : List ℕ) → every isCode codes ≡ true → areBits extra ≡ true → writtenBlock codes extra ≡ record { number = 0; bits = blockOf codes extra }
+pub written-is : (codes : List ℤ) (extra : List ℕ) → every isCode codes ≡ true → areBits extra ≡ true → writtenBlock codes extra ≡ record { number = 0; bits = blockWith codes extra }
 unfolding writtenBlock
 written-is codes extra good bits = rw (good, bits)
 
 module _ (codes : List ℤ) (extra : List ℕ) (four : length codes ≡ 4) (two : length extra ≡ 2) (good : every isCode codes ≡ true) (bits : areBits extra ≡ true) where
   abbrev block : List ℕ
-  block = blockOf codes extra
+  block = blockWith codes extra
 
   abbrev code : ℕ → ℤ
   code c = getD codes c (pos 0)
@@ -53,7 +53,7 @@ module _ (codes : List ℤ) (extra : List ℕ) (four : length codes ≡ 4) (two 
   word = encode-word 44 blockGenerator (sound codes) (below-sound codes) (length-sound codes ∙ omega arith)
 
   is-block : IsBlock block
-  unfolding blockOf
+  unfolding blockWith
   is-block =
       record {
         size = length-block codes extra four ∙ omega arith;
@@ -64,7 +64,7 @@ module _ (codes : List ℤ) (extra : List ℕ) (four : length codes ≡ 4) (two 
       }
 
   pub written-clean : saidOf block ≡ accepted (clean ∷ [])
-  unfolding blockOf
+  unfolding blockWith
   written-clean =
       word-clean block is-block (subst CodeWord (sym (take-at (encode blockGenerator (sound codes)) (rest codes ++ extra) 63 (length-63 codes extra four))) word)
 
@@ -103,7 +103,7 @@ module _ (codes : List ℤ) (extra : List ℕ) (four : length codes ≡ 4) (two 
       ∙ sym (tab-getD 4 codes (pos 0) four)
 
   extra-back : extraAt block ≡ extra
-  unfolding extraAt blockOf
+  unfolding extraAt blockWith
   extra-back =
       sym (drop-drop 12 63 block) ∙ ap (drop 12) (drop-at (encode blockGenerator (sound codes)) (rest codes ++ extra) 63 (length-63 codes extra four))
       ∙ drop-at (rest codes) extra 12 (length-rest codes ∙ omega arith)
@@ -166,8 +166,8 @@ module _ (block : List ℕ) (b : IsBlock block) where
       sym (rest-at read j (omega (arith, four))) ∙ read-at (j / 3) (11 + j % 3) (omega arith) (omega arith)
       ∙ rw (le-ltb (11 + j % 3) 11 k, at, getD-take 12 (drop 63 block) j 0 l, getD-drop 63 block j 0))
 
-  clean-block : CodeWord (protected block) → blockOf read (extraAt block) ≡ block
-  unfolding blockOf extraAt
+  clean-block : CodeWord (protected block) → blockWith read (extraAt block) ≡ block
+  unfolding blockWith extraAt
   clean-block w =
       ap₂ _++_
       (ap (encode blockGenerator) (sound-same ∙ sym (take-take 44 63 block (omega arith))) ∙ word-encode 44 blockGenerator (protected block) w)

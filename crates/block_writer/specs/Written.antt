@@ -8,10 +8,10 @@ use lib.ListN.{replicate}
 use Rattle.bits.specs.Table.{every}
 use Rattle.bits.specs.Bits.{areBits}
 use Rattle.sample.specs.Sample.{isCode}
-use Rattle.block.specs.Layout.{blockOf}
+use Rattle.block.specs.Layout.{blockWith}
 use Rattle.block_writer.specs.declared.BlockWritten.{BlockWritten}
 
 -- a refusal hands out zeros
 unfoldable pub writtenBlock : List ℤ → List ℕ → BlockWritten
 writtenBlock codes extra =
-    cond (every isCode codes && areBits extra) (record { number = 0; bits = blockOf codes extra }) (record { number = 2; bits = replicate 77 0 })
+    cond (every isCode codes && areBits extra) (record { number = 0; bits = blockWith codes extra }) (record { number = 2; bits = replicate 77 0 })

@@ -7,7 +7,7 @@ ghost use Rattle.bits.specs.Table.{every};
 ghost use Rattle.bits.specs.Bits.{areBits};
 ghost use Rattle.sample.specs.Sample.{isCode};
 ghost use Rattle.sample.specs.Pattern.{codeBits};
-ghost use Rattle.block.specs.Layout.{sound, blockOf};
+ghost use Rattle.block.specs.Layout.{sound, blockWith};
 ghost use Rattle.block_writer.specs.Written.{writtenBlock};
 
 // Number 0 and the block, or number 2 and zeros.
@@ -62,7 +62,7 @@ fn sound_of(codes: [i16; 4]) -> [u8; 44]
 
 // The whole block: 44 sound bits, 19 check bits, 12 sound bits, 2 extra bits.
 fn bits_of(codes: [i16; 4], extra: [u8; 2]) -> [u8; 77]
-    ensures { λ r. ⌜ r ≡ blockOf codes extra ⌝ }
+    ensures { λ r. ⌜ r ≡ blockWith codes extra ⌝ }
 {
     let protected = sound_of(codes);
     let check = code::block_check(&protected);

@@ -30,7 +30,7 @@ use Rattle.frame.proofs.Parts.{below-parts}
 use Rattle.frame.proofs.Sync.{below-sync, sync-matches}
 use Rattle.frame.proofs.Places.{place-belongs, gathered-at, Sized, length-frame, frame-sync, frame-service, placed, blocks-gathered}
 use Rattle.frame.proofs.Reading.{below-sent, below-service, reads, read-zero, read-found, found-there, sized-found, found-bits}
-use Rattle.frame_writer.specs.Write.{goodValues, Written, serviceCleared}
+use Rattle.frame_writer.specs.Write.{goodValues, FrameWritten, serviceCleared}
 use Rattle.frame_writer.proofs.Writing.{number-none, success, written-is}
 
 pub sent-twice : (letter : Letter) (s : ℕ) → serviceIn letter (serviceIn letter s) ≡ serviceIn letter s
@@ -75,7 +75,7 @@ module _ (letter : Letter) (s : ℕ) (blocks : List (List ℕ)) (sized : Sized b
       )
 
 pub written-reads : (letter : Letter) (s : ℕ) (blocks : List (List ℕ)) (out frame : List ℕ) → Sized blocks
-    → Written letter s blocks out 0 frame → readFrame letter frame ≡ found (serviceIn letter s) blocks
+    → FrameWritten letter s blocks out 0 frame → readFrame letter frame ≡ found (serviceIn letter s) blocks
 written-reads letter s blocks out frame sized w =
     let good = written-is letter s blocks out frame w in
     ap (readFrame letter) (good .2) ∙ frame-reads letter s blocks sized (good .0) (good .1)
@@ -130,7 +130,7 @@ module _ (letter : Letter) (bytes : List ℕ) (taken : readFrame letter bytes .n
     bytes-kept h = ap bytesOf bits-kept ∙ cleared letter bytes h
 
     pub right-writes : Below 256 bytes → (out : List ℕ) → length out ≡ 40
-        → Written letter (readFrame letter bytes .service) (blocksOf (readFrame letter bytes)) out 0 (serviceCleared letter bytes)
+        → FrameWritten letter (readFrame letter bytes .service) (blocksOf (readFrame letter bytes)) out 0 (serviceCleared letter bytes)
     unfolding goodValues
     right-writes h out sized =
         rw (read-found letter bytes taken)
@@ -140,5 +140,5 @@ module _ (letter : Letter) (bytes : List ℕ) (taken : readFrame letter bytes .n
 
   -- a sync that is taken has at most `mostWrong` wrong bits, and so none
   pub read-writes : Below 256 bytes → (out : List ℕ) → length out ≡ 40
-      → Written letter (readFrame letter bytes .service) (blocksOf (readFrame letter bytes)) out 0 (serviceCleared letter bytes)
+      → FrameWritten letter (readFrame letter bytes .service) (blocksOf (readFrame letter bytes)) out 0 (serviceCleared letter bytes)
   read-writes h out sized = let few = read-zero letter bytes taken .1 in right-writes (omega arith) h out sized

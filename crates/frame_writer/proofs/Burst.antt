@@ -33,7 +33,7 @@ use Rattle.frame.specs.Read.{blockOf, found, readFrame}
 use Rattle.frame.specs.declared.Letter.{Letter}
 use Rattle.frame.proofs.Places.{length-gathered, Sized, length-frame, frame-sync, frame-service, blocks-gathered}
 use Rattle.frame.proofs.Reading.{block-there, reads}
-use Rattle.frame_writer.specs.Write.{Written}
+use Rattle.frame_writer.specs.Write.{FrameWritten}
 use Rattle.frame_writer.specs.Burst.{damaged, damagedBlocks, Burst, Survives}
 use Rattle.frame_writer.proofs.Writing.{written-is}
 use Rattle.frame_writer.proofs.Back.{sent-twice, good-blocks, below-frame, frame-bits}
@@ -110,7 +110,7 @@ module _ (x m : List ℕ) (size : length x ≡ 77) (places : length m ≡ 77) (b
       }
 
 -- ---- a written frame, damaged
-module _ (letter : Letter) (s : ℕ) (blocks : List (List ℕ)) (out frame : List ℕ) (sized : Sized blocks) (written : Written letter s blocks out 0 frame)
+module _ (letter : Letter) (s : ℕ) (blocks : List (List ℕ)) (out frame : List ℕ) (sized : Sized blocks) (written : FrameWritten letter s blocks out 0 frame)
     (mask : List ℕ) (places : length mask ≡ 320) where
   bits : List ℕ
   bits = frameBits letter s blocks

@@ -20,7 +20,7 @@ use Rattle.bits.proofs.Bits.{bits-below, below-bits}
 use Rattle.bits.proofs.Every.{every-all, all-every}
 use Rattle.bits.proofs.Order.{Tells, tells-nothing, tells-length, tells-not, in-order}
 use Rattle.frame.specs.declared.Letter.{Letter}
-use Rattle.frame_writer.specs.Write.{goodValues, writeNumber, Written}
+use Rattle.frame_writer.specs.Write.{goodValues, writeNumber, FrameWritten}
 
 abbrev pub Bits : ℕ → List (List ℕ) → Type 0
 Bits s blocks = (s ≤ 1) × All (Below 2) blocks
@@ -32,7 +32,7 @@ tells-bits s blocks =
     (λ t. let good = both-true (leb s 1) (every areBits blocks) t in (leb-true s 1 (good .0), every-all areBits (Below 2) bits-below blocks (good .1)))
     (λ b. rw (le-leb s 1 (b .0)) (all-every areBits (Below 2) below-bits blocks (b .1)))
 
-module _ (letter : Letter) (s : ℕ) (blocks : List (List ℕ)) (out : List ℕ) (r : ℕ) (out' : List ℕ) (w : Written letter s blocks out r out') where
+module _ (letter : Letter) (s : ℕ) (blocks : List (List ℕ)) (out : List ℕ) (r : ℕ) (out' : List ℕ) (w : FrameWritten letter s blocks out r out') where
   pub write-order : Ordered (length out ≢ 40) (Bits s blocks → ⊥) ⊥ r
   unfolding writeNumber
   write-order =

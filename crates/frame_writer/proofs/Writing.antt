@@ -18,7 +18,7 @@ use Rattle.bits.specs.Bits.{areBits}
 use Rattle.bits.proofs.Tests.{both-true}
 use Rattle.frame.specs.Frame.{frameBytes}
 use Rattle.frame.specs.declared.Letter.{Letter}
-use Rattle.frame_writer.specs.Write.{goodValues, writeNumber, Written}
+use Rattle.frame_writer.specs.Write.{goodValues, writeNumber, FrameWritten}
 
 module _ (size s : ℕ) (blocks : List (List ℕ)) where
   pub number-size : (size ≡ 40 → ⊥) → 1 ≡ writeNumber size s blocks
@@ -34,10 +34,10 @@ module _ (size s : ℕ) (blocks : List (List ℕ)) where
   number-none h e = rw (eq-eqb size 40 h, e)
 
 module _ (letter : Letter) (s : ℕ) (blocks : List (List ℕ)) (out : List ℕ) (r : ℕ) (e : r ≡ writeNumber (length out) s blocks) where
-  pub refusal : (r ≡ 0 → ⊥) → Written letter s blocks out r out
+  pub refusal : (r ≡ 0 → ⊥) → FrameWritten letter s blocks out r out
   refusal h = record { number = e; buffer = rw (← e, ne-eqb r 0 h) }
 
-  pub success : (out' : List ℕ) → r ≡ 0 → out' ≡ frameBytes letter s blocks → Written letter s blocks out r out'
+  pub success : (out' : List ℕ) → r ≡ 0 → out' ≡ frameBytes letter s blocks → FrameWritten letter s blocks out r out'
   success out' h w = record { number = e; buffer = rw (← e, eq-eqb r 0 h) w }
 
 -- a number that is 0, 2 or 1 by two tests
@@ -55,7 +55,7 @@ number-zero size s blocks e =
     (eqb-true size 40 (ways .0), omega arith, good .1)
 
 -- a frame that was written
-pub written-is : (letter : Letter) (s : ℕ) (blocks : List (List ℕ)) (out frame : List ℕ) → Written letter s blocks out 0 frame
+pub written-is : (letter : Letter) (s : ℕ) (blocks : List (List ℕ)) (out frame : List ℕ) → FrameWritten letter s blocks out 0 frame
     → (s < 2) × (every areBits blocks ≡ true) × (frame ≡ frameBytes letter s blocks)
 written-is letter s blocks out frame w =
     let good = number-zero (length out) s blocks (w .number) in

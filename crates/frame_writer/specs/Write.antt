@@ -2,7 +2,7 @@
 --     goodValues s blocks          whether a service bit and all entries of blocks are 0 or 1
 --     writeNumber size s blocks    number 1 for a buffer of another size than 40 bytes, then 2 for a service bit (in B too) or an entry
 --                                  of a block that is neither 0 nor 1
---     Written letter s blocks out r out'
+--     FrameWritten letter s blocks out r out'
 --                                  THE PROMISE: the number handed back, and what the buffer holds then: the frame, or what it held before
 --     serviceCleared letter bytes  A as it is; B with its service bit 0
 use mathlib.Core.Path.{_≡_}
@@ -23,7 +23,7 @@ goodValues s blocks = leb s 1 && every areBits blocks
 unfoldable pub writeNumber : ℕ → ℕ → List (List ℕ) → ℕ
 writeNumber size s blocks = cond (eqb size 40) (cond (goodValues s blocks) 0 2) 1
 
-pub record Written (letter : Letter) (s : ℕ) (blocks : List (List ℕ)) (out : List ℕ) (r : ℕ) (out' : List ℕ) : Type 0 where
+pub record FrameWritten (letter : Letter) (s : ℕ) (blocks : List (List ℕ)) (out : List ℕ) (r : ℕ) (out' : List ℕ) : Type 0 where
   pub number : r ≡ writeNumber (length out) s blocks
   pub buffer : out' ≡ cond (eqb (writeNumber (length out) s blocks) 0) (frameBytes letter s blocks) out
 

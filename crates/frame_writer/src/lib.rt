@@ -4,7 +4,7 @@ ghost use mathlib.Core.List.{[], _∷_, _++_};
 ghost use lib.ListN.{length};
 ghost use Rattle.bits.specs.Bits.{bytesOf};
 ghost use Rattle.frame.specs.Frame.{syncWord, interleave};
-ghost use Rattle.frame_writer.specs.Write.{goodValues, writeNumber, Written};
+ghost use Rattle.frame_writer.specs.Write.{goodValues, writeNumber, FrameWritten};
 use frame::Letter;
 
 fn interleaved(lower: [u8; 77], higher: [u8; 77]) -> [u8; 154]
@@ -99,7 +99,7 @@ pub fn write(
     fourth: [u8; 77],
     out: &mut [u8],
 ) -> u8
-    ensures { λ r. ⌜ Written letter service (first ∷ second ∷ third ∷ fourth ∷ []) (now (out .entry)) r (now (out .exit)) ⌝ }
+    ensures { λ r. ⌜ FrameWritten letter service (first ∷ second ∷ third ∷ fourth ∷ []) (now (out .entry)) r (now (out .exit)) ⌝ }
 {
     let number = write_number(out.len(), service, first, second, third, fourth);
     if number != 0 {

@@ -11,11 +11,11 @@ use Rattle.remainder.specs.Polynomial.{_⊕_, times}
 use Rattle.remainder.specs.Remainder.{takeOff, step, divide, remainder, checkBits}
 use Rattle.code.specs.Generators.{power, powers, scaleGenerator}
 use Rattle.code.specs.Words.{encode, distance}
-use Rattle.scale.specs.Word.{scaleWord, writeAnswer}
-use Rattle.scale.specs.Reading.{most, majority, nearTo, pairAnswer, nearestOf, nearest, readScale, readAnswer}
+use Rattle.scale.specs.Word.{scaleWord, writtenScale}
+use Rattle.scale.specs.Reading.{most, majority, nearTo, pairAnswer, nearestOf, nearest, readScale, scaleAnswer}
 use Rattle.scale.specs.Extra.{information, extraAnswer}
 use Rattle.scale.specs.Printed.{printedRows}
 
 pub printed-holds : All Same printedRows
-unfolding printedRows row every tabulate agrees value digits ones allBelow _⊕_ times takeOff step divide remainder checkBits power powers scaleGenerator encode distance scaleWord writeAnswer most majority nearTo pairAnswer nearestOf nearest readScale readAnswer information extraAnswer
+unfolding printedRows row every tabulate agrees value digits ones allBelow _⊕_ times takeOff step divide remainder checkBits power powers scaleGenerator encode distance scaleWord writtenScale most majority nearTo pairAnswer nearestOf nearest readScale scaleAnswer information extraAnswer
 printed-holds = rows-hold printedRows refl

@@ -33,8 +33,8 @@ use Rattle.remainder.specs.Polynomial.{_⊕_}
 use Rattle.code.specs.Words.{distance}
 use Rattle.code.proofs.Distance.{distance-self, distance-changed}
 use Rattle.bits.proofs.Tests.{either-way}
-use Rattle.scale.specs.Word.{scaleWord, writeAnswer}
-use Rattle.scale.specs.Reading.{majority, mends, nearTo, pairAnswer, nearest, readScale, readAnswer}
+use Rattle.scale.specs.Word.{scaleWord, writtenScale}
+use Rattle.scale.specs.Reading.{majority, mends, nearTo, pairAnswer, nearest, readScale, scaleAnswer}
 use Rattle.scale.specs.Extra.{information, beside, extraAnswer}
 use Rattle.bits.specs.Bits.{areBits}
 use Rattle.bits.proofs.Bits.{bits-below, below-bits}
@@ -113,8 +113,8 @@ module _ (l r : ℕ) (h : l ≤ 7) (k : r ≤ 7) where
   pub third-wrong : (x : List ℕ) → readScale (scaleWord l r ++ (scaleWord l r ++ x)) ≡ accepted (l ∷ r ∷ [])
   third-wrong x = same-back (scaleWord l r ++ (scaleWord l r ++ x)) (third-other (scaleWord l r) x (length-scaleWord l r) (below-scaleWord l r))
 
-  pub written-back : readAnswer (writeAnswer l r .bits ++ (writeAnswer l r .bits ++ writeAnswer l r .bits)) ≡ accepted (l ∷ r ∷ [])
-  unfolding writeAnswer readAnswer
+  pub written-back : scaleAnswer (writtenScale l r .bits ++ (writtenScale l r .bits ++ writtenScale l r .bits)) ≡ accepted (l ∷ r ∷ [])
+  unfolding writtenScale scaleAnswer
   written-back =
       let w = scaleWord l r in
       let b = below-scaleWord l r in

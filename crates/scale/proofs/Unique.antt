@@ -7,8 +7,8 @@ use Prim.Native.Nat.{ℕ}
 use lib.Dec.{eqb}
 use Rattle.bits.specs.Answer.{Answer}
 use Rattle.bits.proofs.Unique.{same, same-through}
-use Rattle.scale.specs.Word.{writeAnswer}
-use Rattle.scale.specs.Reading.{readAnswer, told}
+use Rattle.scale.specs.Word.{writtenScale}
+use Rattle.scale.specs.Reading.{scaleAnswer, factorsTold}
 use Rattle.scale.specs.Extra.{extraAnswer}
 use Rattle.scale.specs.declared.Written.{Written}
 use Rattle.scale.specs.declared.Extra.{Extra}
@@ -23,16 +23,16 @@ pairOr (l ∷ r ∷ vs) other = Factors l r
 abbrev untold : Answer ℕ → Reading
 untold a = pairOr (a .values) (cond (eqb (a .number) 5) Unreadable OutOfRange)
 
-told-back : (r : Reading) → untold (told r) ≡ r
+told-back : (r : Reading) → untold (factorsTold r) ≡ r
 told-back (Factors l r) = refl
 told-back Unreadable = refl
 told-back OutOfRange = refl
 
-pub write-unique : (r r' : Written) (left right : ℕ) → r ≡ writeAnswer left right → r' ≡ writeAnswer left right → r ≡ r'
+pub write-unique : (r r' : Written) (left right : ℕ) → r ≡ writtenScale left right → r' ≡ writtenScale left right → r ≡ r'
 write-unique r r' left right = same
 
-pub read-unique : (r r' : Reading) (bits : List ℕ) → told r ≡ readAnswer bits → told r' ≡ readAnswer bits → r ≡ r'
-read-unique r r' bits = same-through told untold told-back r r'
+pub read-unique : (r r' : Reading) (bits : List ℕ) → factorsTold r ≡ scaleAnswer bits → factorsTold r' ≡ scaleAnswer bits → r ≡ r'
+read-unique r r' bits = same-through factorsTold untold told-back r r'
 
 pub read-extra-unique : (r r' : Extra) (bits : List ℕ) → r ≡ extraAnswer bits → r' ≡ extraAnswer bits → r ≡ r'
 read-extra-unique r r' bits = same

@@ -9,8 +9,8 @@ use mathlib.Core.List.{List, [], _∷_, _++_}
 use Prim.Native.Nat.{ℕ}
 use Prim.Native.String.{String}
 use Rattle.bits.specs.Printed.{row, answered, Row, _prints_}
-use Rattle.scale.specs.Word.{writeAnswer}
-use Rattle.scale.specs.Reading.{readAnswer}
+use Rattle.scale.specs.Word.{writtenScale}
+use Rattle.scale.specs.Reading.{scaleAnswer}
 use Rattle.scale.specs.Extra.{extraAnswer}
 use Rattle.scale.specs.declared.Extra.{Extra}
 
@@ -18,7 +18,7 @@ abbrev pub thrice : String → List ℕ
 thrice text = row text ++ (row text ++ row text)
 
 abbrev pub heard : List ℕ → List ℕ
-heard bits = answered (readAnswer bits)
+heard bits = answered (scaleAnswer bits)
 
 abbrev pub listed : Extra → List ℕ
 listed r = r .number ∷ r .left ∷ r .right ∷ r .word ∷ []
@@ -27,7 +27,7 @@ abbrev pub behind : List ℕ → String → List ℕ
 behind words text = listed (extraAnswer (words ++ row text))
 
 abbrev pub written : ℕ → ℕ → List ℕ
-written l r = writeAnswer l r .number ∷ writeAnswer l r .bits
+written l r = writtenScale l r .number ∷ writtenScale l r .bits
 
 unfoldable pub printedRows : List Row
 printedRows =

@@ -8,8 +8,8 @@
 --     nearestOf n w     of the pairs below n one that is near to w, and number 5 where none is
 --     nearest w         of all 64
 --     readScale bits    what 42 bits read as
---     readAnswer bits   with the refusal: 2 where an entry is not 0 or 1
---     told r            what the code's answer says in document 01's terms
+--     scaleAnswer bits  with the refusal: 2 where an entry is not 0 or 1
+--     factorsTold r     what the code's answer says in document 01's terms
 use Prim.Native.Nat.{ℕ, zero, suc, _+_, _/_, _%_}
 use mathlib.Core.Bool.{Bool, cond}
 use mathlib.Core.List.{List, [], _∷_}
@@ -48,10 +48,10 @@ nearest w = nearestOf 64 w
 unfoldable pub readScale : List ℕ → Answer ℕ
 readScale bits = nearest (majority bits)
 
-unfoldable pub readAnswer : List ℕ → Answer ℕ
-readAnswer bits = cond (areBits bits) (readScale bits) (refused 2)
+unfoldable pub scaleAnswer : List ℕ → Answer ℕ
+scaleAnswer bits = cond (areBits bits) (readScale bits) (refused 2)
 
-abbrev pub told : Reading → Answer ℕ
-told (Factors l r) = accepted (l ∷ r ∷ [])
-told Unreadable = refused 5
-told OutOfRange = refused 2
+abbrev pub factorsTold : Reading → Answer ℕ
+factorsTold (Factors l r) = accepted (l ∷ r ∷ [])
+factorsTold Unreadable = refused 5
+factorsTold OutOfRange = refused 2

@@ -4,8 +4,8 @@ ghost use Prim.Native.Nat.{_+_, _/_, _%_, _<_};
 ghost use lib.ListN.{getD};
 ghost use Rattle.bits.specs.Table.{tabulate};
 ghost use Rattle.bits.specs.Digits.{value, digits};
-ghost use Rattle.scale.specs.Word.{scaleWord, writeAnswer};
-ghost use Rattle.scale.specs.Reading.{most, majority, nearTo, pairAnswer, nearest, readAnswer, told};
+ghost use Rattle.scale.specs.Word.{scaleWord, writtenScale};
+ghost use Rattle.scale.specs.Reading.{most, majority, nearTo, pairAnswer, nearest, scaleAnswer, factorsTold};
 ghost use Rattle.scale.specs.Extra.{extraAnswer};
 
 // Number 0 and the 14 bits of a scale word, or number 2 and zeros.
@@ -58,7 +58,7 @@ fn bits_of(word: u32) -> [u8; 14]
 }
 
 pub fn write(left: u8, right: u8) -> Written
-    ensures { λ r. ⌜ r ≡ writeAnswer left right ⌝ }
+    ensures { λ r. ⌜ r ≡ writtenScale left right ⌝ }
 {
     if 7 < left {
         return Written {
@@ -125,7 +125,7 @@ fn nearest_of(word: u32) -> u8
 }
 
 pub fn read(bits: [u8; 42]) -> Reading
-    ensures { λ r. ⌜ told r ≡ readAnswer bits ⌝ }
+    ensures { λ r. ⌜ factorsTold r ≡ scaleAnswer bits ⌝ }
 {
     if !bits::are_bits(&bits) {
         return Reading::OutOfRange;

@@ -13,7 +13,7 @@ use Rattle.bits.proofs.Table.{toward, arrived}
 use Rattle.remainder.specs.Remainder.{checkBits}
 use Rattle.code.specs.Generators.{blockGenerator}
 use Rattle.sample.specs.Pattern.{codeBits}
-use Rattle.block.specs.Layout.{blockOf}
+use Rattle.block.specs.Layout.{blockWith}
 use Rattle.block.proofs.Places.{length-block, at-sound, at-check, at-rest, at-extra}
 use borrow.Author.Needs.{needs}
 use Rattle.block_writer.proofs.bits_of.Statement.{statement}
@@ -21,7 +21,7 @@ use Rattle.block_writer.proofs.bits_of.Tie as tie
 
 abbrev Inv-loop : tie.InvT-loop
 Inv-loop codes extra protected check out₀ j₀ out j =
-    (j ≤ 77) × (length out ≡ 77) × (take j out ≡ take j (blockOf codes extra))
+    (j ≤ 77) × (length out ≡ 77) × (take j out ≡ take j (blockWith codes extra))
 
 abbrev μ-loop : tie.MeasureT-loop
 μ-loop codes extra protected check out₀ j₀ out j = 77 - j
@@ -80,7 +80,7 @@ loop-less c = search needs
 -- the bit stored in a turn is the block's
 stored : (c : tie.Joined1 Inv-loop μ-loop) →
     let a = c .before .before .before .before .before .before .args in
-    c .if1 .bit ≡ getD (blockOf (a .t1) (a .t2)) (c .before .before .loop .j) 0
+    c .if1 .bit ≡ getD (blockWith (a .t1) (a .t2)) (c .before .before .loop .j) 0
 stored c =
     let a = c .before .before .before .before .before .before .args in
     let j = c .before .before .loop .j in
@@ -105,7 +105,7 @@ loop-again c =
     let four : length (a .t1) ≡ 4 = search needs in
     let two : length (a .t2) ≡ 2 = search needs in
     let long = length-block (a .t1) (a .t2) four in
-    (search needs, search needs, toward (blockOf (a .t1) (a .t2)) (l .out) (l .j) _ 0 (omega arith) (omega arith) (l .inv .2) (stored c))
+    (search needs, search needs, toward (blockWith (a .t1) (a .t2)) (l .out) (l .j) _ 0 (omega arith) (omega arith) (l .inv .2) (stored c))
 
 returns : tie.Need-returns Inv-loop μ-loop
 returns c =
@@ -114,7 +114,7 @@ returns c =
     let four : length (a .t1) ≡ 4 = search needs in
     let two : length (a .t2) ≡ 2 = search needs in
     let long = length-block (a .t1) (a .t2) four in
-    arrived (blockOf (a .t1) (a .t2)) (l .out) (l .j) (omega arith) (omega arith) (l .inv .2)
+    arrived (blockWith (a .t1) (a .t2)) (l .out) (l .j) (omega arith) (omega arith) (l .inv .2)
 
 pub bits-of-spec : {M : Type 1} → statement M
 bits-of-spec =

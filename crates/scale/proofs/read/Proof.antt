@@ -5,7 +5,7 @@ use mathlib.Core.List.{List}
 use Prim.Native.Nat.{ℕ}
 use borrow.Author.Tests.{not-true, not-false}
 use Rattle.bits.specs.Bits.{areBits}
-use Rattle.scale.specs.Reading.{pairAnswer, readScale, readAnswer}
+use Rattle.scale.specs.Reading.{pairAnswer, readScale, scaleAnswer}
 use Rattle.scale.proofs.Majority.{majority-small}
 use Rattle.scale.proofs.Nearest.{pair-within, pair-beyond}
 use Rattle.scale.proofs.Scale.{read-found}
@@ -20,12 +20,8 @@ are-bits-requires : tie.Need-are-bits-requires
 are-bits-requires c κs = search needs
 
 returns : tie.Need-returns
-unfolding readAnswer
-returns c =
-    let looked = c .before in
-    let bits = looked .before .before .args .t1 in
-    let none : areBits bits ≡ false = sym (looked .are-bits .ensures) ∙ not-true _ (c .if1 .taken) in
-    rw none
+unfolding scaleAnswer
+returns c = let looked = c .before in rw (sym (looked .are-bits .ensures) ∙ not-true _ (c .if1 .taken))
 
 slice-aggregate-majority-of : tie.Need-slice-aggregate-majority-of
 slice-aggregate-majority-of c = search needs
@@ -55,11 +51,11 @@ module _ (c : tie.After-nearest-of) where
   found = let voted = c .before in read-found _ (voted .majority-of .result) (c .nearest-of .result) (voted .majority-of .ensures) (c .nearest-of .ensures)
 
 returns-2 : tie.Need-returns-2
-unfolding readAnswer
+unfolding scaleAnswer
 returns-2 c = rw (all (c .before)) (sym (pair-within (c .before .nearest-of .result) (c .if2 .taken)) ∙ found (c .before))
 
 returns-3 : tie.Need-returns-3
-unfolding readAnswer
+unfolding scaleAnswer
 returns-3 c = rw (all (c .before)) (sym (pair-beyond (c .before .nearest-of .result) (c .if2 .left)) ∙ found (c .before))
 
 pub read-spec : {M : Type 1} → statement M

@@ -23,11 +23,7 @@ are-bits-requires c κs = search needs
 
 returns : tie.Need-returns
 unfolding extraAnswer
-returns c =
-    let looked = c .before in
-    let bits = looked .before .before .args .t1 in
-    let none : areBits bits ≡ false = sym (looked .are-bits .ensures) ∙ not-true _ (c .if1 .taken) in
-    rw none
+returns c = let looked = c .before in rw (sym (looked .are-bits .ensures) ∙ not-true _ (c .if1 .taken))
 
 slice-aggregate-word-behind : tie.Need-slice-aggregate-word-behind
 slice-aggregate-word-behind c = search needs

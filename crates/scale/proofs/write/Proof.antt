@@ -5,7 +5,7 @@ use native.Mathlib.Omega.{arith}
 use borrow.Author.Tests.{le-leb, lt-leb}
 use mathlib.Core.List.{List}
 use Rattle.bits.specs.Digits.{digits}
-use Rattle.scale.specs.Word.{scaleWord, writeAnswer}
+use Rattle.scale.specs.Word.{scaleWord, writtenScale}
 use Rattle.scale.specs.declared.Written.{Written}
 use Rattle.scale.proofs.Word.{word-digits}
 use borrow.Author.Needs.{needs}
@@ -16,11 +16,11 @@ abbrev made : List ℕ → Written
 made bits = record { number = 0; bits = bits }
 
 returns : tie.Need-returns
-unfolding writeAnswer
+unfolding writtenScale
 returns c = rw (lt-leb (c .before .args .left) 7 (c .if1 .taken))
 
 returns-2 : tie.Need-returns-2
-unfolding writeAnswer
+unfolding writtenScale
 returns-2 c =
     let s = c .before .before .args in
     rw (le-leb (s .left) 7 (c .before .if1 .left), lt-leb (s .right) 7 (c .if2 .taken))
@@ -38,7 +38,7 @@ bits-of-requires : tie.Need-bits-of-requires
 bits-of-requires c κs = search needs
 
 returns-3 : tie.Need-returns-3
-unfolding writeAnswer
+unfolding writtenScale
 returns-3 c =
     let made-word = c .before in
     let second = made-word .before in
