@@ -16,7 +16,7 @@ use mathlib.Core.Bool.{cond}
 use mathlib.Core.List.{List}
 use lib.Dec.{eqb}
 use lib.ListN.{length, getD, take, drop, replicate}
-use Rattle.bits.specs.Table.{tabulate}
+use Rattle.bits.specs.Table.{tabulate, zeros}
 use Rattle.bits.specs.Bits.{bytesOf}
 use Rattle.scale.specs.Extra.{extraAnswer}
 use Rattle.scale.specs.declared.Extra.{Extra}
@@ -55,7 +55,7 @@ programmesOf sf =
     record { numbers = tabulate 16 (numberAt sf); factors = tabulate 32 (factorRead sf); words = tabulate 16 (wordAt sf) }
 
 unfoldable pub refusedProgrammes : Programmes
-refusedProgrammes = record { numbers = replicate 16 1; factors = replicate 32 8; words = replicate 16 0 }
+refusedProgrammes = record { numbers = replicate 16 1; factors = replicate 32 8; words = zeros 16 }
 
 unfoldable pub programmesAnswer : List ℕ → Programmes
 programmesAnswer sf = cond (eqb (length sf) 5120) (programmesOf sf) refusedProgrammes
@@ -76,7 +76,7 @@ unfoldable pub sixAndSync : List ℕ → SixAndSync
 sixAndSync sf = record { number = 0; six = sixOf (serviceBits sf); sync = syncOf (serviceBits sf) }
 
 unfoldable pub refusedSix : SixAndSync
-refusedSix = record { number = 1; six = replicate 6 0; sync = replicate 16 0 }
+refusedSix = record { number = 1; six = zeros 6; sync = zeros 16 }
 
 unfoldable pub sixAnswer : List ℕ → SixAndSync
 sixAnswer sf = cond (eqb (length sf) 5120) (sixAndSync sf) refusedSix

@@ -24,7 +24,7 @@ use Rattle.bits.specs.Digits.{value, Below}
 use Rattle.bits.proofs.Digits.{getD-digits, digits-value, below-append, below-take, below-drop}
 use Rattle.sample.specs.Pattern.{codeBits}
 use Rattle.sample.proofs.Patterns.{length-codeBits, below-codeBits}
-use Rattle.block.specs.Layout.{joined, upper, lower, sound, rest, blockWith, fourteen, placeOf}
+use Rattle.block.specs.Layout.{joined, upper, lower, sound, rest, blockWith, fourteen, codePlace}
 use Rattle.block.proofs.Joined.{length-joined, getD-joined, below-joined}
 
 length-upper : (c : ℤ) → length (upper c) ≡ 11
@@ -155,7 +155,7 @@ module _ (block : List ℕ) (size : length block ≡ 77) (c : ℕ) (h : c < 4) w
       (getD-back (take 11 (drop (11 * c) block)) (take 3 (drop (63 + 3 * c) block)) 11 k 0 length-11 l
       ∙ getD-take 3 (drop (63 + 3 * c) block) (k - 11) 0 near ∙ getD-drop (63 + 3 * c) block (k - 11) 0 ∙ ap (λ (n : ℕ). getD block n 0) at)
 
-  pub fourteen-at : (k : ℕ) → k < 14 → getD block (placeOf c k) 0 ≡ getD (fourteen block c) k 0
-  unfolding placeOf
+  pub fourteen-at : (k : ℕ) → k < 14 → getD block (codePlace c k) 0 ≡ getD (fourteen block c) k 0
+  unfolding codePlace
   fourteen-at k l =
       either-way (ltb k 11) (λ u. rw u (fourteen-upper k (ltb-true k 11 u))) (λ u. rw u (fourteen-lower k (ltb-false k 11 u) l))

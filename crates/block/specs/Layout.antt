@@ -6,7 +6,7 @@
 --     rest codes        the 12 unprotected ones: their lower bits, code by code
 --     blockWith codes extra   the block
 --     fourteen block c  the 14 bits of channel c: its 11 among the first 44, its 3 among the 12
---     placeOf c k       where bit k of them stands in the block
+--     codePlace c k       where bit k of them stands in the block
 use Prim.Native.Nat.{ℕ, _+_, _*_}
 use mathlib.Core.Bool.{cond}
 use mathlib.Core.List.{List, [], _∷_, _++_, map}
@@ -40,5 +40,5 @@ unfoldable pub fourteen : List ℕ → ℕ → List ℕ
 fourteen block c = take 11 (drop (11 * c) block) ++ take 3 (drop (63 + 3 * c) block)
 
 -- the lower bits, k from 11 on, stand behind the first 63: 63 - 11 is 52
-unfoldable pub placeOf : ℕ → ℕ → ℕ
-placeOf c k = cond (ltb k 11) (11 * c + k) (52 + 3 * c + k)
+unfoldable pub codePlace : ℕ → ℕ → ℕ
+codePlace c k = cond (ltb k 11) (11 * c + k) (52 + 3 * c + k)

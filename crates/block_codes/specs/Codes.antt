@@ -7,7 +7,7 @@ use mathlib.Core.Bool.{cond}
 use mathlib.Core.List.{List}
 use lib.IntN.{ℤ, pos}
 use lib.ListN.{drop, replicate}
-use Rattle.bits.specs.Table.{tabulate}
+use Rattle.bits.specs.Table.{tabulate, zeros}
 use Rattle.bits.specs.Bits.{areBits}
 use Rattle.sample.specs.Pattern.{bitsCode}
 use Rattle.block.specs.Layout.{fourteen}
@@ -26,4 +26,4 @@ extraAt block = drop 75 block
 unfoldable pub codesOf : List ℕ → BlockCodes
 codesOf block =
     cond (areBits block) (record { number = 0; codes = codesAt block; extra = extraAt block })
-    (record { number = 2; codes = replicate 4 (pos 0); extra = replicate 2 0 })
+    (record { number = 2; codes = replicate 4 (pos 0); extra = zeros 2 })

@@ -3,7 +3,7 @@
 --     printedRows       THE TABLE: the last two of 77 bits are the extra bits; an entry that is no bit
 use mathlib.Core.List.{List, [], _∷_, _++_}
 use Prim.Native.Nat.{ℕ}
-use lib.ListN.{replicate}
+use Rattle.bits.specs.Table.{zeros}
 use Rattle.bits.specs.Printed.{Row, _prints_}
 use Rattle.block_codes.specs.Codes.{codesOf}
 
@@ -11,4 +11,4 @@ abbrev pub apart : List ℕ → List ℕ
 apart block = codesOf block .number ∷ codesOf block .extra
 
 unfoldable pub printedRows : List Row
-printedRows = (apart (replicate 75 0 ++ (1 ∷ 0 ∷ [])) prints 0 ∷ 1 ∷ 0 ∷ []) ∷ (apart (replicate 76 0 ++ (2 ∷ [])) prints 2 ∷ 0 ∷ 0 ∷ []) ∷ []
+printedRows = (apart (zeros 75 ++ (1 ∷ 0 ∷ [])) prints 0 ∷ 1 ∷ 0 ∷ []) ∷ (apart (zeros 76 ++ (2 ∷ [])) prints 2 ∷ 0 ∷ 0 ∷ []) ∷ []

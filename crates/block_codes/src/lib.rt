@@ -4,7 +4,7 @@ ghost use mathlib.Core.Bool.{true};
 ghost use Prim.Native.Nat.{_<_};
 ghost use Rattle.bits.specs.Digits.{value};
 ghost use Rattle.bits.specs.Bits.{areBits};
-ghost use Rattle.block.specs.Layout.{fourteen, placeOf};
+ghost use Rattle.block.specs.Layout.{fourteen, codePlace};
 ghost use Rattle.block_codes.specs.Codes.{codesAt, codesOf};
 
 // Number 0, the codes of the four channels and the extra bits of the two programmes; or number 2 and zeros.
@@ -17,7 +17,7 @@ pub struct BlockCodes {
 // Where bit k of a channel's 14 stands in a block: 52 is 63 - 11, as the lower bits, from k 11 on, stand behind the first 63.
 fn place_of(channel: usize, k: usize) -> usize
     requires { ⌜ (channel < 4) × (k < 14) ⌝ }
-    ensures { λ r. ⌜ (r ≡ placeOf channel k) × (r < 77) ⌝ }
+    ensures { λ r. ⌜ (r ≡ codePlace channel k) × (r < 77) ⌝ }
 {
     if k < 11 {
         11 * channel + k

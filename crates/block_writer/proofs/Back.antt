@@ -29,7 +29,7 @@ use Rattle.code.proofs.Words.{encode-word}
 use Rattle.sample.specs.Sample.{isCode}
 use Rattle.sample.specs.Pattern.{codeBits, bitsCode}
 use Rattle.sample.proofs.Patterns.{signed-inside, code-bits-back, bits-code-back, length-codeBits}
-use Rattle.block.specs.Layout.{sound, rest, blockWith, fourteen, placeOf}
+use Rattle.block.specs.Layout.{sound, rest, blockWith, fourteen, codePlace}
 use Rattle.block.specs.Read.{clean, protected, saidOf, handedOn}
 use Rattle.block.specs.Demand.{IsBlock}
 use Rattle.block.proofs.Places.{length-sound, below-sound, sound-at, length-rest, below-rest, rest-at, length-63, length-block, at-sound, at-rest, length-fourteen, below-fourteen, fourteen-at}
@@ -84,8 +84,8 @@ module _ (codes : List ℤ) (extra : List ℕ) (four : length codes ≡ 4) (two 
       let j : 11 + (52 + 3 * c + k - 63) % 3 ≡ k = omega arith in
       sym (at-rest codes extra four (52 + 3 * c + k) (omega arith) (omega arith)) ∙ rw (i, j)
 
-  at-place : (c k : ℕ) → c < 4 → k < 14 → getD block (placeOf c k) 0 ≡ getD (codeBits (code c)) k 0
-  unfolding placeOf
+  at-place : (c k : ℕ) → c < 4 → k < 14 → getD block (codePlace c k) 0 ≡ getD (codeBits (code c)) k 0
+  unfolding codePlace
   at-place c k h l =
       either-way (ltb k 11) (λ u. rw u (at-upper c k h (ltb-true k 11 u))) (λ u. rw u (at-lower c k h (ltb-false k 11 u) l))
 
@@ -134,7 +134,7 @@ module _ (block : List ℕ) (b : IsBlock block) where
   good = every-tab isCode 4 (codeAt block) (λ c h. signed-inside _)
 
   -- the bits of a code that was read are the channel's, at their places
-  read-at : (c k : ℕ) → c < 4 → k < 14 → getD (codeBits (getD read c (pos 0))) k 0 ≡ getD block (placeOf c k) 0
+  read-at : (c k : ℕ) → c < 4 → k < 14 → getD (codeBits (getD read c (pos 0))) k 0 ≡ getD block (codePlace c k) 0
   unfolding codesAt codeAt
   read-at c k h l =
       ap (λ (z : ℤ). getD (codeBits z) k 0) (getD-tab 4 (codeAt block) c (pos 0) h)
@@ -143,7 +143,7 @@ module _ (block : List ℕ) (b : IsBlock block) where
       ∙ sym (fourteen-at block (b .size) c h k l)
 
   sound-same : sound read ≡ take 44 block
-  unfolding placeOf
+  unfolding codePlace
   sound-same =
       let long : length (sound read) ≡ 44 = length-sound read ∙ omega (arith, four) in
       ext-getD 0 (sound read) (take 44 block) (long ∙ sym (length-take-le 44 block (omega (arith, b .size))))
@@ -155,7 +155,7 @@ module _ (block : List ℕ) (b : IsBlock block) where
       ∙ rw (lt-ltb (j % 11) 11 k, at, getD-take 44 block j 0 l))
 
   rest-same : rest read ≡ take 12 (drop 63 block)
-  unfolding placeOf
+  unfolding codePlace
   rest-same =
       let long : length (rest read) ≡ 12 = length-rest read ∙ omega (arith, four) in
       ext-getD 0 (rest read) (take 12 (drop 63 block)) (long ∙ sym (length-take-le 12 (drop 63 block) (omega (arith, b .size, length-drop 63 block))))

@@ -4,8 +4,7 @@ use Prim.Native.Nat.{ℕ}
 use mathlib.Core.Bool.{cond, _&&_}
 use mathlib.Core.List.{List}
 use lib.IntN.{ℤ}
-use lib.ListN.{replicate}
-use Rattle.bits.specs.Table.{every}
+use Rattle.bits.specs.Table.{every, zeros}
 use Rattle.bits.specs.Bits.{areBits}
 use Rattle.sample.specs.Sample.{isCode}
 use Rattle.block.specs.Layout.{blockWith}
@@ -14,4 +13,4 @@ use Rattle.block_writer.specs.declared.BlockWritten.{BlockWritten}
 -- a refusal hands out zeros
 unfoldable pub writtenBlock : List ℤ → List ℕ → BlockWritten
 writtenBlock codes extra =
-    cond (every isCode codes && areBits extra) (record { number = 0; bits = blockWith codes extra }) (record { number = 2; bits = replicate 77 0 })
+    cond (every isCode codes && areBits extra) (record { number = 0; bits = blockWith codes extra }) (record { number = 2; bits = zeros 77 })

@@ -7,7 +7,7 @@
 --     blocksIn bytes             all four
 --     nothing n                  number n, and zeros in every other place
 --     found s blocks             number 0, a service bit and four blocks
---     blocksOf r                 the four blocks of an answer
+--     blocksRead r               the four blocks of an answer
 --     readFrame letter bytes     THE ANSWER: number 1 for another length than 40 bytes, then 3 for a wrong sync
 use mathlib.Core.Bool.{cond}
 use mathlib.Core.List.{List, [], _∷_}
@@ -51,8 +51,8 @@ abbrev pub found : ℕ → List (List ℕ) → FrameRead
 found s blocks =
     record { number = 0; service = s; first = block blocks 0; second = block blocks 1; third = block blocks 2; fourth = block blocks 3 }
 
-abbrev pub blocksOf : FrameRead → List (List ℕ)
-blocksOf r = r .first ∷ r .second ∷ r .third ∷ r .fourth ∷ []
+abbrev pub blocksRead : FrameRead → List (List ℕ)
+blocksRead r = r .first ∷ r .second ∷ r .third ∷ r .fourth ∷ []
 
 unfoldable pub readFrame : Letter → List ℕ → FrameRead
 readFrame letter bytes =

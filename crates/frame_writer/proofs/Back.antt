@@ -22,7 +22,7 @@ use Rattle.bits.proofs.Table.{getD-tab}
 use Rattle.bits.proofs.Tests.{both-true}
 use Rattle.bits.proofs.Bits.{length-bitsOf, length-bytesOf, bytes-back, bits-back, bits-below, bitsOf-at}
 use Rattle.frame.specs.Frame.{syncWord, serviceIn, interleave, block, frameBits, frameBytes, blockAt, bitAtPlace}
-use Rattle.frame.specs.Read.{wrongSync, serviceRead, blocksIn, found, blocksOf, readFrame}
+use Rattle.frame.specs.Read.{wrongSync, serviceRead, blocksIn, found, blocksRead, readFrame}
 use Rattle.frame.specs.declared.Letter.{Letter}
 use Rattle.frame.specs.declared.Letter.the-variants.{A, B}
 use Rattle.frame.proofs.Interleave.{below-interleave}
@@ -130,7 +130,7 @@ module _ (letter : Letter) (bytes : List ℕ) (taken : readFrame letter bytes .n
     bytes-kept h = ap bytesOf bits-kept ∙ cleared letter bytes h
 
     pub right-writes : Below 256 bytes → (out : List ℕ) → length out ≡ 40
-        → FrameWritten letter (readFrame letter bytes .service) (blocksOf (readFrame letter bytes)) out 0 (serviceCleared letter bytes)
+        → FrameWritten letter (readFrame letter bytes .service) (blocksRead (readFrame letter bytes)) out 0 (serviceCleared letter bytes)
     unfolding goodValues
     right-writes h out sized =
         rw (read-found letter bytes taken)
@@ -140,5 +140,5 @@ module _ (letter : Letter) (bytes : List ℕ) (taken : readFrame letter bytes .n
 
   -- a sync that is taken has at most `mostWrong` wrong bits, and so none
   pub read-writes : Below 256 bytes → (out : List ℕ) → length out ≡ 40
-      → FrameWritten letter (readFrame letter bytes .service) (blocksOf (readFrame letter bytes)) out 0 (serviceCleared letter bytes)
+      → FrameWritten letter (readFrame letter bytes .service) (blocksRead (readFrame letter bytes)) out 0 (serviceCleared letter bytes)
   read-writes h out sized = let few = read-zero letter bytes taken .1 in right-writes (omega arith) h out sized

@@ -6,16 +6,17 @@
 use mathlib.Core.List.{List, [], _∷_, _++_}
 use Prim.Native.Nat.{ℕ}
 use lib.ListN.{replicate}
+use Rattle.bits.specs.Table.{zeros}
 use Rattle.bits.specs.Printed.{hex, Row, _prints_}
 use Rattle.frame.specs.Frame.{frameBytes}
 use Rattle.frame.specs.declared.Letter.the-variants.{A, B}
 use Rattle.frame_writer.specs.Write.{writeNumber}
 
 abbrev pub nought : List ℕ
-nought = replicate 77 0
+nought = zeros 77
 
 abbrev pub odd : List ℕ
-odd = replicate 76 0 ++ (2 ∷ [])
+odd = zeros 76 ++ (2 ∷ [])
 
 abbrev pub silent : List (List ℕ)
 silent = nought ∷ nought ∷ nought ∷ nought ∷ []
@@ -25,9 +26,9 @@ writing size s blocks = writeNumber size s blocks ∷ []
 
 unfoldable pub printedRows : List Row
 printedRows =
-    (frameBytes A 0 silent prints hex "E2 40" ++ replicate 38 0)
-    ∷ (frameBytes A 1 silent prints hex "E2 50" ++ replicate 38 0)
-    ∷ (frameBytes B 1 silent prints hex "1D A0" ++ replicate 38 0)
+    (frameBytes A 0 silent prints hex "E2 40" ++ zeros 38)
+    ∷ (frameBytes A 1 silent prints hex "E2 50" ++ zeros 38)
+    ∷ (frameBytes B 1 silent prints hex "1D A0" ++ zeros 38)
     -- bit 13 is block 1 bit 1, bit 14 block 2 bit 1; from bit 167 on block 3 and block 4
     ∷ (frameBytes A 0 (replicate 77 1 ∷ nought ∷ nought ∷ replicate 77 1 ∷ []) prints hex "E2 4A" ++ (replicate 18 170 ++ (hex "A9" ++ replicate 19 85)))
     ∷ (writing 40 1 silent prints 0 ∷ [])

@@ -12,8 +12,8 @@ use mathlib.Core.List.{List, [], _∷_}
 use Prim.Native.Nat.{ℕ, _<_, _≤_}
 use native.Mathlib.Omega.{arith}
 use lib.ListN.{length}
+use Rattle.bits.specs.Table.{zeros}
 use Rattle.bits.specs.Digits.{Below}
-use Rattle.service_group.specs.Places.{zeros}
 use Rattle.service_sync.specs.Sync.{kindOf, dropsWith}
 use Rattle.service.specs.Service.{searchingService}
 use Rattle.service.specs.Run.{Step, stepped, after}

@@ -21,8 +21,7 @@ use Rattle.code.specs.Generators.{blockGenerator}
 use Rattle.code.specs.Words.{encode}
 use Rattle.sample.specs.Sample.{sampleOf}
 use Rattle.sample.specs.Pattern.{bitsCode}
-use Rattle.block.specs.Layout.{sound, rest, fourteen, placeOf}
-use Rattle.block.specs.Layout as L
+use Rattle.block.specs.Layout.{sound, rest, blockWith}
 use Rattle.block.specs.Read.{saidWith, handedOn}
 use Rattle.block.specs.Demand.{Sent}
 use Rattle.block.proofs.Places.{length-sound, length-rest, below-sound, below-rest, length-63, length-block, at-sound, length-fourteen, fourteen-at}
@@ -47,7 +46,7 @@ module _ (sf : List ℕ) (f p : ℕ) (codes : List ℤ) (extra mask : List ℕ) 
   other = rest codes ++ extra
 
   abbrev written : List ℕ
-  written = L.blockOf codes extra
+  written = blockWith codes extra
 
   length-other : length other ≡ 14
   length-other = length-append (rest codes) extra ∙ omega (arith, length-rest codes, h .four, h .two)
@@ -70,7 +69,7 @@ module _ (sf : List ℕ) (f p : ℕ) (codes : List ℤ) (extra mask : List ℕ) 
   rest-back = rw (h .arrived) (third .others (sound codes) mask other sent)
 
   written-rest : drop 63 written ≡ other
-  unfolding L.blockOf
+  unfolding blockWith
   written-rest = drop-at (encode blockGenerator (sound codes)) other 63 (length-63 codes extra (h .four))
 
   written-front : take 44 written ≡ sound codes

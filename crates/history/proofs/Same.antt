@@ -16,7 +16,7 @@ use Rattle.bits.proofs.Tests.{either-way}
 use Rattle.sample.specs.Pattern.{bitsCode}
 use Rattle.reading.specs.Reading.{handed}
 use Rattle.reading.specs.Search.{reading}
-use Rattle.block.specs.Layout.{fourteen, placeOf}
+use Rattle.block.specs.Layout.{fourteen, codePlace}
 use Rattle.block.specs.Read.{Said, said, ordinary, protected, handedOn}
 use Rattle.block.specs.Demand.{IsBlock}
 use Rattle.block.proofs.Places.{length-fourteen, fourteen-at}
@@ -37,8 +37,8 @@ module _ (x y : List ℕ) (n : ℕ) where
 -- the upper bits of the codes stand in the first 44 places, the lower ones in the twelve from 63 on
 module _ (x y : List ℕ) (size : length x ≡ 77) (size' : length y ≡ 77)
     (upper : (p : ℕ) → p < 44 → getD x p 0 ≡ getD y p 0) (lower : (p : ℕ) → 63 ≤ p → p < 75 → getD x p 0 ≡ getD y p 0) where
-  same-place : (c k : ℕ) → c < 4 → k < 14 → getD x (placeOf c k) 0 ≡ getD y (placeOf c k) 0
-  unfolding placeOf
+  same-place : (c k : ℕ) → c < 4 → k < 14 → getD x (codePlace c k) 0 ≡ getD y (codePlace c k) 0
+  unfolding codePlace
   same-place c k h l =
       either-way (ltb k 11)
       (λ t. let u : k < 11 = ltb-true k 11 t in rw t (upper (11 * c + k) (omega arith)))

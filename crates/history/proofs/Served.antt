@@ -14,10 +14,9 @@ use native.Mathlib.Omega.{arith}
 use borrow.Author.Tests.{eqb-true}
 use lib.Dec.{eqb}
 use lib.ListN.{replicate}
-use Rattle.bits.specs.Table.{tabulate}
+use Rattle.bits.specs.Table.{tabulate, zeros}
 use Rattle.bits.proofs.Table.{tab-ext}
 use Rattle.bits.proofs.Tests.{either-way}
-use Rattle.service_group.specs.Places.{zeros}
 use Rattle.service_sync.specs.Sync.{kindOf, nextPosition, dropsWith}
 use Rattle.service.specs.Service.{searchingService}
 use Rattle.service.specs.Taking.{takeSync, takeSix}
@@ -71,7 +70,7 @@ position-given s first second a b = position-kept (first .answer .next) second b
 -- ---- how far the labels are, over any call
 answer-none : (n : ℕ) (s : State) (k : Call s) → progress.progress (serviceOf s) < 72
     → (takeAnswer n s (k .bytes) .complete ≡ false) × (takeAnswer n s (k .bytes) .labels ≡ replicate 256 0)
-unfolding takeAnswer besideWith refusedWith zeros
+unfolding takeAnswer besideWith refusedWith
 answer-none n s k h =
     either-way (eqb n 0)
     (λ t. let none = progress.far-none (serviceOf s) (stepIn k) h in rw t (none .complete, none .labels))

@@ -13,8 +13,8 @@ use mathlib.Core.Path.{_≡_}
 use mathlib.Core.Bool.{true, false}
 use mathlib.Core.List.{List, _++_}
 use lib.IntN.{ℤ, pos}
-use lib.ListN.{length, replicate}
-use Rattle.bits.specs.Table.{tabulate, every}
+use lib.ListN.{length}
+use Rattle.bits.specs.Table.{tabulate, every, zeros}
 use Rattle.bits.specs.Bits.{areBits, ones}
 use Rattle.sample.specs.Sample.{isCode}
 use Rattle.block.specs.Layout.{sound, rest}
@@ -48,7 +48,7 @@ stepIn k = record { six = sixAndSync (k .bytes) .six; sync = sixAndSync (k .byte
 
 pub record LabelsNone {s : State} (k : Call s) : Type 0 where
   pub complete : k .answer .complete ≡ false
-  pub labels : k .answer .labels ≡ replicate 256 0
+  pub labels : k .answer .labels ≡ zeros 256
 
 abbrev pub LostIn : {s : State} → Call s → Type 0
 LostIn k = k .answer .number ≡ 3

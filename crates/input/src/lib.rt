@@ -74,7 +74,9 @@ fn skip(count: u32) -> u32 {
 }
 
 // Behind the 16 bytes of a header, reads on to the first superframe.
-pub fn skip_to(offset: u32) -> u32 {
+pub fn skip_to(offset: u32) -> u32
+    ensures { λ r. ⌜ (offset ≤ 16 → r ≡ 0) ⌝ }
+{
     if 16 < offset {
         return skip(offset - 16);
     }

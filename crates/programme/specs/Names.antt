@@ -12,7 +12,7 @@ use mathlib.Core.Bool.{Bool, cond, _&&_, _||_}
 use mathlib.Core.List.{List, [], _∷_, _++_}
 use lib.Dec.{ltb, leb, eqb}
 use lib.ListN.{length, getD, replicate}
-use Rattle.bits.specs.Table.{every}
+use Rattle.bits.specs.Table.{every, zeros}
 use Rattle.bits.specs.Letters.{letters}
 use Rattle.programme.specs.declared.Name.{Name}
 
@@ -39,4 +39,4 @@ goodWord cs =
 
 -- a refusal hands out zeros in place of letters
 unfoldable pub nameFor : ℕ → Name
-nameFor t = cond (ltb t 16) (record { number = 0; letters = nameOf t }) (record { number = 2; letters = replicate 8 0 })
+nameFor t = cond (ltb t 16) (record { number = 0; letters = nameOf t }) (record { number = 2; letters = zeros 8 })

@@ -5,16 +5,13 @@
 -- Of a coefficient that is neither 0 nor 1 its lowest binary digit counts: a sum is taken modulo 2.
 use mathlib.Core.List.{List, [], _∷_}
 use Prim.Native.Nat.{ℕ, _+_, _*_, _%_}
-use lib.ListN.{replicate}
+pub use Rattle.bits.specs.Table.{zeros}
 
 infixl 60 _⊕_
 unfoldable pub _⊕_ : List ℕ → List ℕ → List ℕ
 [] ⊕ q = []
 (x ∷ p) ⊕ [] = []
 (x ∷ p) ⊕ (y ∷ q) = (x + y) % 2 ∷ (p ⊕ q)
-
-abbrev pub zeros : ℕ → List ℕ
-zeros n = replicate n 0
 
 unfoldable pub times : ℕ → List ℕ → List ℕ
 times x [] = []

@@ -13,9 +13,9 @@ use Prim.Native.Nat.{ℕ, _+_, _/_, _%_, _<_, _≤_}
 use native.Mathlib.Omega.{arith}
 use lib.Dec.{ltb}
 use lib.ListN.{getD}
+use Rattle.bits.specs.Table.{zeros}
 use borrow.Author.Tests.{ltb-true}
 use Rattle.bits.specs.Digits.{Below}
-use Rattle.service_group.specs.Places.{zeros}
 use Rattle.service_group.specs.Six.{groupAfter, labelsAfter, stageAfter}
 use Rattle.service_sync.specs.Sync.{kindOf, isOpen, nextPosition, dropsWith}
 use Rattle.service.specs.Taking.{takeSix, takeSync}

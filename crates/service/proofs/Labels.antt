@@ -18,9 +18,8 @@ use lib.Dec.{eqb, ltb}
 use lib.ListN.{getD}
 use borrow.Author.Tests.{lt-ltb, eq-eqb, ne-eqb}
 use Rattle.bits.specs.Digits.{Below}
-use Rattle.bits.specs.Table.{tabulate}
+use Rattle.bits.specs.Table.{tabulate, zeros}
 use Rattle.bits.proofs.Table.{length-tab, tab-ext, tab-getD}
-use Rattle.service_group.specs.Places.{zeros}
 use Rattle.service_group.specs.Six.{separates}
 use Rattle.service_sync.specs.Sync.{sync1, sync2, isOpen}
 use Rattle.service.specs.Taking.{takeSix, takeSync}

@@ -17,10 +17,10 @@ use mathlib.Core.List.{List}
 use Prim.Native.Nat.{ℕ, _+_, _<_, _≤_}
 use native.Mathlib.Omega.{arith}
 use lib.Dec.{leb}
+use Rattle.bits.specs.Table.{zeros}
 use borrow.Author.Tests.{leb-true, le-leb, lt-ltb}
 use Rattle.bits.specs.Digits.{Below}
 use Rattle.bits.specs.Bits.{allBelow}
-use Rattle.service_group.specs.Places.{zeros}
 use Rattle.service_group.specs.Six.{groupAfter, separates}
 use Rattle.service_sync.specs.Sync.{sync1, sync2, kindOf, dropsWith}
 use Rattle.service.specs.Taking.{takeSix, takeSync}

@@ -14,9 +14,9 @@ use mathlib.Core.List.{List, [], _∷_}
 use Prim.Native.Nat.{ℕ, _+_, _*_, _<_, _≤_}
 use native.Mathlib.Omega.{arith}
 use lib.ListN.{length}
+use Rattle.bits.specs.Table.{zeros}
 use borrow.Author.Tests.{not-true}
 use Rattle.bits.specs.Digits.{Below}
-use Rattle.service_group.specs.Places.{zeros}
 use Rattle.service_group.specs.Six.{stageAfter, groupAfter, isReady}
 use Rattle.service_sync.specs.Sync.{kindOf, isOpen, nextPosition, dropsWith}
 use Rattle.service.specs.Taking.{takeSix, stageWith, takeSync}

@@ -3,12 +3,12 @@
 --     printedRows           THE TABLE: positions and stages to 8; the two syncs, another one, and entries that are no bits
 use mathlib.Core.List.{List, [], _∷_}
 use Prim.Native.Nat.{ℕ}
-use lib.ListN.{replicate}
+use Rattle.bits.specs.Table.{zeros}
 use Rattle.bits.specs.Printed.{row, Row, _prints_}
 use Rattle.service.specs.Service.{served}
 
 abbrev pub serving : ℕ → ℕ → List ℕ → List ℕ
-serving p t sync = served (record { position = p; group = replicate 32 0; stage = t; labels = replicate 256 0 }) (replicate 6 0) sync .number ∷ []
+serving p t sync = served (record { position = p; group = zeros 32; stage = t; labels = zeros 256 }) (zeros 6) sync .number ∷ []
 
 unfoldable pub printedRows : List Row
 printedRows =

@@ -9,8 +9,8 @@ use Prim.Native.Nat.{ℕ}
 use mathlib.Core.Bool.{Bool, false, cond}
 use mathlib.Core.List.{List}
 use lib.Dec.{leb}
+use Rattle.bits.specs.Table.{zeros}
 use Rattle.bits.specs.Bits.{allBelow}
-use Rattle.service_group.specs.Places.{zeros}
 use Rattle.service_group.specs.Six.{isReady}
 use Rattle.service_sync.specs.Sync.{kindOf, numberOf}
 use Rattle.service.specs.Taking.{takeSix, takeSync}

@@ -6,7 +6,7 @@ use Prim.Native.Nat.{ℕ}
 use mathlib.Core.Bool.{cond}
 use mathlib.Core.List.{List}
 use lib.Dec.{ltb}
-use Rattle.service_group.specs.Places.{zeros}
+use Rattle.bits.specs.Table.{zeros}
 use Rattle.service_group.specs.Six.{groupAfter, labelsAfter, stageAfter}
 use Rattle.service_sync.specs.Sync.{nextPosition, dropsWith}
 use Rattle.service_sync.specs.declared.Kind.{Kind}

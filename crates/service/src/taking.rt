@@ -1,7 +1,7 @@
 // What six bytes and the sync behind them make of the machine's state.
 ghost use mathlib.Core.Path.{_≡_};
 ghost use mathlib.Core.Bool.{cond};
-ghost use Rattle.service_group.specs.Places.{zeros};
+ghost use Rattle.bits.specs.Table.{zeros};
 ghost use Rattle.service.specs.Taking.{takeSix, takeSync};
 use crate::Service;
 use service_sync::Kind;

@@ -9,8 +9,9 @@ use native.Mathlib.Omega.{arith}
 use lib.ListN.{getD, getD-replicate}
 use mathlib.Core.Bool.{Bool, true, false, cond}
 use lib.Dec.{eqb, ltb}
+use Rattle.bits.specs.Table.{zeros}
 use borrow.Author.Tests.{ltb-true, lt-ltb, le-ltb, eq-eqb, ne-eqb}
-use Rattle.service_group.specs.Places.{zeros, inOrder}
+use Rattle.service_group.specs.Places.{inOrder}
 
 module _ (at place was comes : ℕ) where
   pub before-kept : place < at → inOrder at place was comes ≡ was
@@ -33,5 +34,4 @@ was-alike at place was was' comes h = by-test (ltb place at) refl where
   by-test false e = refl
 
 pub zeros-getD : (n i : ℕ) → i < n → getD (zeros n) i 0 ≡ 0
-unfolding zeros
 zeros-getD n i h = getD-replicate n i 0 0 h

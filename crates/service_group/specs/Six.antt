@@ -13,9 +13,9 @@ use mathlib.Core.Bool.{Bool, false, cond}
 use mathlib.Core.List.{List}
 use lib.Dec.{eqb, ltb}
 use lib.ListN.{getD}
-use Rattle.bits.specs.Table.{tabulate}
+use Rattle.bits.specs.Table.{tabulate, zeros}
 use Rattle.bits.specs.Bits.{allBelow}
-use Rattle.service_group.specs.Places.{zeros, inOrder}
+use Rattle.service_group.specs.Places.{inOrder}
 
 -- bytes 1 to 4 at position m are the channels left and right of programmes 2m - 1 and 2m; bytes 5 and 6 are of none
 unfoldable pub channelByte : ℕ → List ℕ → List ℕ → ℕ → ℕ

@@ -9,7 +9,7 @@ ghost use Prim.Native.Nat.{_<_};
 ghost use lib.IntN.{pos};
 ghost use lib.ListN.{length};
 ghost use Rattle.io.specs.Counts.{Counts};
-ghost use Rattle.streams.specs.Error.{errorOf};
+ghost use Rattle.streams.specs.Error.{errorOf, Told};
 
 pub struct Filled {
     // how many bytes came, at the start of the buffer
@@ -52,7 +52,9 @@ pub fn fill(fd: i32, buf: &mut [u8]) -> Filled
 }
 
 // Writes all of these bytes, and answers the error.
-pub fn write(fd: i32, bytes: &[u8]) -> u32 {
+pub fn write(fd: i32, bytes: &[u8]) -> u32
+    ensures { λ r. ⌜ Told r ⌝ }
+{
     if io::write_all(fd, bytes) {
         return 0;
     }

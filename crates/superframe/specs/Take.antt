@@ -13,7 +13,8 @@ use mathlib.Core.Bool.{false, cond}
 use mathlib.Core.List.{List}
 use lib.Dec.{eqb}
 use lib.IntN.{ℤ}
-use lib.ListN.{length, replicate}
+use lib.ListN.{length}
+use Rattle.bits.specs.Table.{zeros}
 use Rattle.service.specs.Service.{served}
 use Rattle.service.specs.declared.Served.{Served}
 use Rattle.tape.specs.Tape.{synced, blocksOf, noBlocks}
@@ -50,7 +51,7 @@ besideWith s sf b =
     }
 
 unfoldable pub noProgrammes : Programmes
-noProgrammes = record { numbers = replicate 16 0; factors = replicate 32 0; words = replicate 16 0 }
+noProgrammes = record { numbers = zeros 16; factors = zeros 32; words = zeros 16 }
 
 unfoldable pub refusedWith : ℕ → State → Taken
 refusedWith n s =
@@ -59,11 +60,11 @@ refusedWith n s =
       next = s;
       blocks = noBlocks;
       programmes = noProgrammes;
-      six = replicate 6 0;
+      six = zeros 6;
       position = 0;
       service = 0;
       complete = false;
-      labels = replicate 256 0;
+      labels = zeros 256;
     }
 
 abbrev pub stateUnder : ℕ → State → State

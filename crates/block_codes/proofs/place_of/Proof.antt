@@ -1,7 +1,7 @@
 -- `block_codes::place_of` meets its contract. Assumes nothing.
 use native.Mathlib.Omega.{arith}
 use borrow.Author.Tests.{lt-ltb, le-ltb}
-use Rattle.block.specs.Layout.{placeOf}
+use Rattle.block.specs.Layout.{codePlace}
 use borrow.Author.Needs.{needs}
 use Rattle.block_codes.proofs.place_of.Statement.{statement}
 use Rattle.block_codes.proofs.place_of.Tie as tie
@@ -22,11 +22,11 @@ add-result-3 : tie.Need-add-result-3
 add-result-3 c = search needs
 
 returns : tie.Need-returns
-unfolding placeOf
+unfolding codePlace
 returns c = (rw (lt-ltb (c .before .args .k) 11 (omega arith)), omega arith)
 
 returns-2 : tie.Need-returns-2
-unfolding placeOf
+unfolding codePlace
 returns-2 c = (rw (le-ltb (c .before .args .k) 11 (omega arith)), omega arith)
 
 pub place-of-spec : {M : Type 1} → statement M

@@ -1,14 +1,13 @@
 -- `service::taking::group_if` meets its contract. Assumes nothing.
-use Rattle.service_group.specs.Places.{zeros}
 use borrow.Author.Needs.{needs}
 use Rattle.service.proofs.taking.group_if.Statement.{statement}
 use Rattle.service.proofs.taking.group_if.Tie as tie
+use Rattle.bits.specs.Table.{zeros}
 
 returns : tie.Need-returns
 returns c = search needs
 
 returns-2 : tie.Need-returns-2
-unfolding zeros
 returns-2 c = search needs
 
 pub group-if-spec : {M : Type 1} → statement M

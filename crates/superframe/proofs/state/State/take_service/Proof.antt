@@ -1,18 +1,18 @@
 -- `superframe::state::State::take_service` meets its contract. Assumes nothing.
 use mathlib.Core.Path.{sym, _∙_}
 use borrow.Author.Tests.{not-true, not-false}
-use Rattle.service_group.specs.Places.{zeros}
 use Rattle.service.specs.Service.{refusedService}
 use Rattle.superframe.specs.State.{servicedWith}
 use borrow.Author.Needs.{needs}
 use Rattle.superframe.proofs.state.State.take_service.Statement.{statement}
 use Rattle.superframe.proofs.state.State.take_service.Tie as tie
+use Rattle.bits.specs.Table.{zeros}
 
 in-range-requires : tie.Need-in-range-requires
 in-range-requires c κs = search needs
 
 returns : tie.Need-returns
-unfolding servicedWith refusedService zeros
+unfolding servicedWith refusedService
 returns c = rw (sym (c .before .in-range .ensures) ∙ not-true _ (c .if1 .taken))
 
 service-of-requires : tie.Need-service-of-requires
