@@ -5,7 +5,7 @@
 use mathlib.Core.Path.{_≡_, sym, ap, _∙_}
 use mathlib.Core.Bool.{Bool}
 use mathlib.Core.List.{List}
-use Prim.Native.Nat.{ℕ}
+use Prim.Native.Nat.{ℕ, _<_}
 use lib.ListN.{getD}
 use Rattle.bits.specs.Bits.{bitAt, byteAt, allBelow, areBits}
 
@@ -24,6 +24,9 @@ module _ (r r' : ℕ) (l : List ℕ) (k : ℕ) where
 
   pub byte-from-unique : r ≡ byteAt l k → r' ≡ byteAt l k → r ≡ r'
   byte-from-unique = same
+
+pub wide-unique : (r r' b : ℕ) → (r ≡ b) × (r < 256) → (r' ≡ b) × (r' < 256) → r ≡ r'
+wide-unique r r' b p q = same (p .0) (q .0)
 
 pub are-bits-unique : (r r' : Bool) (l : List ℕ) → r ≡ areBits l → r' ≡ areBits l → r ≡ r'
 are-bits-unique r r' l = same

@@ -1,6 +1,6 @@
 // Bits of bytes and bytes of bits (docs/FORMAT.md, "Path of a reel"). Every function takes any slice and any place, and says what it gives past the end.
 ghost use mathlib.Core.Path.{_≡_};
-ghost use Prim.Native.Nat.{_+_, _%_};
+ghost use Prim.Native.Nat.{_+_, _%_, _<_};
 ghost use lib.ListN.{getD};
 ghost use Rattle.bits.specs.Bits.{bitAt, byteAt, allBelow, areBits};
 
@@ -9,6 +9,13 @@ pub fn byte_of(bytes: &[u8], i: usize) -> u8
     ensures { λ r. ⌜ r ≡ getD (now (bytes .entry)) i 0 ⌝ }
 {
     if i < bytes.len() { bytes[i] } else { 0 }
+}
+
+// A byte as a wider number.
+pub fn wide(byte: u8) -> u32
+    ensures { λ r. ⌜ (r ≡ byte) × (r < 256) ⌝ }
+{
+    byte as u32
 }
 
 // Bit k, counted from 0; 0 past the end.

@@ -17,21 +17,15 @@ pub enum RunCount {
     NoRun,
 }
 
-fn wide(byte: u8) -> u32
-    ensures { λ r. ⌜ (r ≡ byte) × (r < 256) ⌝ }
-{
-    byte as u32
-}
-
 // The big-endian number in four bytes.
 fn number_at(bytes: &[u8], at: usize) -> u32
     requires { ⌜ at + 4 ≤ length (now bytes) ⌝ }
     ensures { λ r. ⌜ r ≡ numberAt (now (bytes .entry)) at ⌝ }
 {
-    wide(bytes[at]) * 16_777_216
-        + wide(bytes[at + 1]) * 65_536
-        + wide(bytes[at + 2]) * 256
-        + wide(bytes[at + 3])
+    bits::wide(bytes[at]) * 16_777_216
+        + bits::wide(bytes[at + 1]) * 65_536
+        + bits::wide(bytes[at + 2]) * 256
+        + bits::wide(bytes[at + 3])
 }
 
 fn is_header(count: u32, offset: u32, summary: u32, entries: u32) -> bool

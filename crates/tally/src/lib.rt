@@ -1,6 +1,5 @@
 // The totals of a listing (docs/FORMAT.md, "Reel file and listing"), which grow by one superframe at a time.
 ghost use mathlib.Core.Path.{_≡_};
-ghost use Prim.Native.Nat.{_<_};
 ghost use Rattle.tally.specs.Totals.{grown, sumOf, noTotals, stepOf};
 
 pub struct Totals {
@@ -29,12 +28,6 @@ fn grow(total: u64, by: u64) -> u64
     total + by
 }
 
-fn wide(byte: u8) -> u64
-    ensures { λ r. ⌜ (r ≡ byte) × (r < 256) ⌝ }
-{
-    byte as u64
-}
-
 // Of the counts of the eight block positions.
 pub fn sum(counts: [u8; 8]) -> u64
     ensures { λ r. ⌜ r ≡ sumOf counts ⌝ }
@@ -42,7 +35,7 @@ pub fn sum(counts: [u8; 8]) -> u64
     let mut sum: u64 = 0;
     let mut p: usize = 0;
     while p < 8 {
-        sum += wide(counts[p]);
+        sum += bits::wide(counts[p]) as u64;
         p += 1;
     }
     sum

@@ -67,8 +67,10 @@ loop-less c = search needs
 
 loop-again : tie.Need-loop-again Inv-loop μ-loop
 loop-again c =
-    let l = c .before .before .before .before .loop in
-    let sf = c .before .before .before .before .before .before .args .sf .now in
+    let read = c .before .before in
+    let turn = read .before .before in
+    let l = turn .loop in
+    let sf = turn .before .before .args .sf .now in
     let x = c .before .before .extra-of .ensures in
     let left : c .before .factor-or .result ≡ factorRead sf (2 * l .q) =
     c .before .factor-or .ensures ∙ ap (λ (x : Extra). factorOr (x .number) (x .left)) x ∙ left-there sf (l .q) in

@@ -35,8 +35,9 @@ loop-less c = search needs
 
 loop-again : tie.Need-loop-again Inv-loop μ-loop
 loop-again c =
-    let l = c .before .before .loop in
-    let a = c .before .before .before .before .args in
+    let turn = c .before .before in
+    let l = turn .loop in
+    let a = turn .before .before .args in
     (search needs, search needs, tab-more (extraBit (a .sf .now) (a .q)) (l .out) (l .f) _ (omega arith) (l .inv .2) (c .extra-at .ensures))
 
 returns : tie.Need-returns Inv-loop μ-loop

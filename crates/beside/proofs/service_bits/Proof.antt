@@ -42,8 +42,9 @@ loop-less c = search needs
 
 loop-again : tie.Need-loop-again Inv-loop μ-loop
 loop-again c =
-    let l = c .before .before .loop in
-    let sf = c .before .before .before .before .args .sf .now in
+    let turn = c .before .before in
+    let l = turn .loop in
+    let sf = turn .before .before .args .sf .now in
     (search needs, search needs, tab-more (serviceBit sf) (l .out) (l .f) _ (omega arith) (l .inv .2) (c .bit-of .ensures ∙ service-there sf (l .f)))
 
 returns : tie.Need-returns Inv-loop μ-loop

@@ -42,8 +42,9 @@ loop-less c = search needs
 
 loop-again : tie.Need-loop-again Inv-loop μ-loop
 loop-again c =
-    let l = c .before .before .before .loop in
-    let bits = c .before .before .before .before .args .t1 in
+    let turn = c .before .before .before in
+    let l = turn .loop in
+    let bits = turn .before .args .t1 in
     (search needs, search needs, tab-more (λ i. byteAt (take 48 bits) (8 * i)) (l .out) (l .i) _ (omega arith) (l .inv .2) (c .byte-from .ensures ∙ byte-there bits (l .i) (omega arith)))
 
 returns : tie.Need-returns Inv-loop μ-loop

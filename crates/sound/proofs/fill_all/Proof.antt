@@ -85,7 +85,8 @@ loop-less c = search needs
 loop-again : tie.Need-loop-again Inv-loop μ-loop
 loop-again c =
     let d = c .before .before .before in
-    let h = d .before .before .before .before in
+    let lent = d .before .before in
+    let h = lent .before .before in
     let s = h .before .before .before in
     let a = s .args in
     let n : length (a .samples .now) ≡ 2048 = s .pre .1 .0 in
@@ -98,10 +99,10 @@ loop-again c =
     )
 
 same-length : tie.Need-same-length Inv-loop μ-loop
-same-length c = long (c .before) ∙ sym (c .before .before .before .before .pre .1 .0)
+same-length c = let h = c .before in long h ∙ sym (h .before .before .before .pre .1 .0)
 
 same-length-2 : tie.Need-same-length-2 Inv-loop μ-loop
-same-length-2 c = long' (c .before) ∙ sym (c .before .before .before .before .pre .1 .1)
+same-length-2 c = let h = c .before in long' h ∙ sym (h .before .before .before .pre .1 .1)
 
 returns : tie.Need-returns Inv-loop μ-loop
 unfolding samplesOf marksOf

@@ -28,17 +28,24 @@ Inv-loop sf n factors samples₀ marks₀ mark codes first j₀ samples marks j 
 abbrev μ-loop : tie.MeasureT-loop
 μ-loop sf n factors samples₀ marks₀ mark codes first j₀ samples marks j = 4 - j
 
+-- from the loop's head back to the block that was read, and to the entry
+abbrev read-of : tie.At-loop Inv-loop μ-loop → tie.After-read-at Inv-loop μ-loop
+read-of h = h .before .before
+
+abbrev entry-of : tie.After-read-at Inv-loop μ-loop → tie.Start Inv-loop μ-loop
+entry-of r = r .before .before .before
+
 -- the two slices are as long at the loop's head as they were
 module _ (c : tie.At-loop Inv-loop μ-loop) where
   long : length (c .loop .samples) ≡ 4
   long =
-      let s = c .before .before .before .before .before in
+      let s = entry-of (read-of c) in
       let n : length (s .args .samples .now) ≡ 4 = s .pre .1 .0 in
       ap length (c .loop .inv .1) ∙ length-filled _ (c .loop .j) (s .args .samples .now) (omega arith) ∙ n
 
   long' : length (c .loop .marks) ≡ 4
   long' =
-      let s = c .before .before .before .before .before in
+      let s = entry-of (read-of c) in
       let n : length (s .args .marks .now) ≡ 4 = s .pre .1 .1 in
       ap length (c .loop .inv .2) ∙ length-filled _ (c .loop .j) (s .args .marks .now) (omega arith) ∙ n
 
@@ -71,27 +78,27 @@ array-copy-out-sound-of c = search needs
 
 -- a superframe, and a place that is there: the block was not refused
 module _ (c : tie.After-read-at Inv-loop μ-loop) where
-  given : c .read-at .result ≡ quadIn (c .before .before .before .args .sf .now) (c .before .before .before .args .n / 8) (c .before .before .before .args .n % 8)
+  given : c .read-at .result ≡ quadIn (entry-of c .args .sf .now) (entry-of c .args .n / 8) (entry-of c .args .n % 8)
   given =
-      let s = c .before .before .before in
+      let s = entry-of c in
       let there : s .args .n < 512 = s .pre .0 .1 in
       c .read-at .ensures ∙ quad-given (s .args .sf .now) (s .args .n / 8) (s .args .n % 8) (s .pre .0 .0) (omega arith) (omega arith)
 
 -- code j of the block that was read
 module _ (c : tie.After-sound-of-arg Inv-loop μ-loop) where
   start : tie.Start Inv-loop μ-loop
-  start = c .before .before .before .before .before .before .before .before
+  start = entry-of (read-of (c .before .before .before))
 
   block : List ℕ
   block = handedOn (blockIn (start .args .sf .now) (start .args .n / 8) (start .args .n % 8))
 
-  code-is : toZ w16 (ofZ w16 (getD (c .before .before .before .before .before .read-at .result .codes) (c .before .before .before .loop .j) (pos 0)))
+  code-is : toZ w16 (ofZ w16 (getD (read-of (c .before .before .before) .read-at .result .codes) (c .before .before .before .loop .j) (pos 0)))
       ≡ getD (codesAt block) (c .before .before .before .loop .j) (pos 0)
   unfolding quadIn start block
   code-is =
       let j = c .before .before .before .loop .j in
-      toZ-ofZ w16 (getD (c .before .before .before .before .before .read-at .result .codes) j (pos 0)) (record { sfits = c .sound-of-arg .given })
-      ∙ ap (λ (q : Quad). getD (q .codes) j (pos 0)) (given (c .before .before .before .before .before))
+      toZ-ofZ w16 (getD (read-of (c .before .before .before) .read-at .result .codes) j (pos 0)) (record { sfits = c .sound-of-arg .given })
+      ∙ ap (λ (q : Quad). getD (q .codes) j (pos 0)) (given (read-of (c .before .before .before)))
 
 sound-of-requires : tie.Need-sound-of-requires Inv-loop μ-loop
 unfolding start block
@@ -103,13 +110,13 @@ mul-x : tie.Need-mul-x Inv-loop μ-loop
 mul-x c = search needs
 
 slice-set-from-x : tie.Need-slice-set-from-x Inv-loop μ-loop
-slice-set-from-x c = omega (arith, long (c .before .before .before .before))
+slice-set-from-x c = let heard = c .before in omega (arith, long (heard .before .before .before))
 
 marked-requires : tie.Need-marked-requires Inv-loop μ-loop
 marked-requires c κs = search needs
 
 slice-write-marks : tie.Need-slice-write-marks Inv-loop μ-loop
-slice-write-marks c = omega (arith, long' (c .before .before .before .before .before))
+slice-write-marks c = let stored = c .before .before in omega (arith, long' (stored .before .before .before))
 
 add-j : tie.Need-add-j Inv-loop μ-loop
 add-j c = search needs
@@ -120,8 +127,10 @@ loop-less c = search needs
 loop-again : tie.Need-loop-again Inv-loop μ-loop
 unfolding quadIn start block
 loop-again c =
-    let h = c .before .before .before .before .before in
-    let s = h .before .before .before .before .before in
+    let stored = c .before .before in
+    let h = stored .before .before .before in
+    let read = h .before .before in
+    let s = read .before .before .before in
     let a = s .args in
     let j = h .loop .j in
     let n : length (a .samples .now) ≡ 4 = s .pre .1 .0 in
@@ -130,7 +139,7 @@ loop-again c =
     c .before .sound-of .ensures ∙ ap (λ (z : ℤ). soundAt z (getD (a .factors .now) (4 * (a .n % 8) + j) 0)) (code-is (c .before .before))
     ∙ sample-there (a .sf .now) (a .factors .now) (a .n) j (omega arith) in
     let mark : c .marked .result ≡ inRows (markAt (a .sf .now) (a .factors .now)) (4 * a .n + j) =
-    c .marked .ensures ∙ ap (λ (q : Quad). markWith (q .mark) (getD (a .factors .now) (4 * (a .n % 8) + j) 0)) (given (h .before .before))
+    c .marked .ensures ∙ ap (λ (q : Quad). markWith (q .mark) (getD (a .factors .now) (4 * (a .n % 8) + j) 0)) (given read)
     ∙ ap (λ (m : ℕ). markWith m (getD (a .factors .now) (4 * (a .n % 8) + j) 0)) (quad-mark (a .sf .now) (a .n / 8) (a .n % 8) (omega arith) (omega arith))
     ∙ mark-there (a .sf .now) (a .factors .now) (a .n) j (omega arith) in (
       search needs,
@@ -141,17 +150,17 @@ loop-again c =
     )
 
 same-length : tie.Need-same-length Inv-loop μ-loop
-same-length c = long (c .before) ∙ sym (c .before .before .before .before .before .before .pre .1 .0)
+same-length c = let h = c .before in long h ∙ sym (entry-of (read-of h) .pre .1 .0)
 
 same-length-2 : tie.Need-same-length-2 Inv-loop μ-loop
-same-length-2 c = long' (c .before) ∙ sym (c .before .before .before .before .before .before .pre .1 .1)
+same-length-2 c = let h = c .before in long' h ∙ sym (entry-of (read-of h) .pre .1 .1)
 
 returns : tie.Need-returns Inv-loop μ-loop
 returns c =
     let h = c .before in
-    let s = h .before .before .before .before .before in
+    let s = entry-of (read-of h) in
     let e : h .loop .j ≡ 4 = omega arith in (
-      ap (λ (q : Quad). q .mark) (given (h .before .before)) ∙ quad-mark (s .args .sf .now) (s .args .n / 8) (s .args .n % 8) (omega arith) (omega arith),
+      ap (λ (q : Quad). q .mark) (given (read-of h)) ∙ quad-mark (s .args .sf .now) (s .args .n / 8) (s .args .n % 8) (omega arith) (omega arith),
       (h .loop .inv .1 ∙ rw e (filled-all _ 4 (s .args .samples .now) (s .pre .1 .0)), h .loop .inv .2 ∙ rw e (filled-all _ 4 (s .args .marks .now) (s .pre .1 .1))),
     )
 

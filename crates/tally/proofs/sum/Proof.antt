@@ -25,6 +25,9 @@ array-read-wide c = search needs
 wide-requires : tie.Need-wide-requires Inv-loop μ-loop
 wide-requires c κs = search needs
 
+cast-sum : tie.Need-cast-sum Inv-loop μ-loop
+cast-sum c = search needs
+
 add-sum : tie.Need-add-sum Inv-loop μ-loop
 add-sum c = search needs
 
@@ -58,6 +61,7 @@ sum-spec =
     loop-holds
     array-read-wide
     wide-requires
+    cast-sum
     add-sum
     add-p
     loop-less

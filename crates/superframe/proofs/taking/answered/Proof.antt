@@ -24,7 +24,8 @@ joined-requires c κs = search needs
 returns : tie.Need-returns
 unfolding besideWith
 returns c =
-    let served = c .before .before .before .before .before in
+    let parts = c .before .before .before in
+    let served = parts .before .before in
     let part = served .before in
     let sent = part .before .before .before in
     let long = sent .before .before .before .pre in

@@ -22,11 +22,12 @@ mark-of-requires c κs = search needs
 
 returns : tie.Need-returns
 returns c =
-    let read = c .before .before .before .before in
+    let taken = c .before .before in
+    let read = taken .before .before in
     let a = read .before .before .before .args in
     let r = read .read .result in
     let is : IsRead _ r = subst (λ (l : List ℕ). IsRead l r) (read .before .block-at .ensures) (read .read .ensures) in
-    rw (c .mark-of .ensures, c .before .before .codes-of .ensures) (quad-there (a .sf .now) (a .f) (a .p) r is)
+    rw (c .mark-of .ensures, taken .codes-of .ensures) (quad-there (a .sf .now) (a .f) (a .p) r is)
 
 pub quad-at-spec : {M : Type 1} → statement M
 quad-at-spec =

@@ -30,7 +30,7 @@ returns c =
 -- behind the test of the lengths
 module _ (c : tie.After-in-range) where
   start : tie.Start
-  start = c .before .before .before .before .before
+  start = let asked = c .before .before in asked .before .before .before
 
   fit : lengthsFit (length (start .args .bytes .now)) (length (start .args .samples .now)) (length (start .args .marks .now)) ≡ true
   unfolding start
@@ -56,11 +56,11 @@ fill-requires c κs = search needs
 -- behind the test of the state
 module _ (c : tie.After-fill) where
   tested : tie.After-in-range
-  tested = c .before .before .before .before .before .before
+  tested = let lent = c .before .before .before in lent .before .before .before
 
   good : stateInRange (start tested .args .self) ≡ true
   unfolding start tested
-  good = sym (tested .in-range .ensures) ∙ not-false _ (c .before .before .before .before .before .if2 .left)
+  good = sym (tested .in-range .ensures) ∙ (let lent = c .before .before .before in not-false _ (lent .before .before .if2 .left))
 
 lose-requires : tie.Need-lose-requires
 lose-requires c κs = search needs
@@ -77,16 +77,19 @@ same-length-2 c = search needs
 returns-3 : tie.Need-returns-3
 unfolding start tested takeNumber
 returns-3 c =
-    let f = c .before .before .before .before .before .before .before .before in
+    let lost = c .before .before in
+    let counted = lost .before .before in
+    let lists = counted .before .before in
+    let f = lists .before .before in
     let a = start (tested f) .args in
-    let lost = lost-fill (a .bytes .now) (a .self .next) (a .samples .now) (a .marks .now) _ _ _ (f .fill .ensures) (fit (tested f)) (c .before .before .before .if3 .taken) in
-    refused-took (a .self) (a .bytes .now) (a .samples .now) (a .marks .now) _ _ _ 3 (rw (fit (tested f), good f, lost .0)) refl
-    (c .refused3 .ensures ∙ ap (λ (l : Lost). refusedWith 3 (l .next)) (c .before .before .lose .ensures) ∙ ap (refusedWith 3) (lost-next (a .self) (good f)))
-    (lost .1) (lost .2)
+    let left = lost-fill (a .bytes .now) (a .self .next) (a .samples .now) (a .marks .now) _ _ _ (f .fill .ensures) (fit (tested f)) (lost .before .if3 .taken) in
+    refused-took (a .self) (a .bytes .now) (a .samples .now) (a .marks .now) _ _ _ 3 (rw (fit (tested f), good f, left .0)) refl
+    (c .refused3 .ensures ∙ ap (λ (l : Lost). refusedWith 3 (l .next)) (lost .lose .ensures) ∙ ap (refusedWith 3) (lost-next (a .self) (good f)))
+    (left .1) (left .2)
 
 answered-requires : tie.Need-answered-requires
 unfolding start tested
-answered-requires c κs = fits _ _ _ (fit (tested (c .before .before .before .before .before .before))) .0
+answered-requires c κs = fits _ _ _ (let lists = c .before .before .before in fit (tested (lists .before .before .before))) .0
 
 same-length-3 : tie.Need-same-length-3
 same-length-3 c = search needs
@@ -97,9 +100,11 @@ same-length-4 c = search needs
 returns-4 : tie.Need-returns-4
 unfolding start tested takeNumber
 returns-4 c =
-    let f = c .before .before .before .before .before .before .before in
+    let taken = c .before .before in
+    let lists = taken .before .before .before in
+    let f = lists .before .before in
     let a = start (tested f) .args in
-    let filled = good-fill (a .bytes .now) (a .self .next) (a .samples .now) (a .marks .now) _ _ _ (f .fill .ensures) (fit (tested f)) (c .before .before .if3 .left) in
+    let filled = good-fill (a .bytes .now) (a .self .next) (a .samples .now) (a .marks .now) _ _ _ (f .fill .ensures) (fit (tested f)) (taken .if3 .left) in
     answered-took (a .self) (a .bytes .now) (a .samples .now) (a .marks .now) _ _ _ (rw (fit (tested f), good f, filled .0))
     (c .answered .ensures ∙ ap (besideWith (a .self) (a .bytes .now)) (filled .1))
     (filled .2) (filled .3)

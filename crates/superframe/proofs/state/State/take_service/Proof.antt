@@ -27,7 +27,8 @@ joined-requires c κs = search needs
 returns-2 : tie.Need-returns-2
 unfolding servicedWith
 returns-2 c =
-    let served = c .before .before .before .before .before in
+    let parts = c .before .before .before in
+    let served = parts .before .before in
     let part = served .before in
     let tested = part .before in
     rw (c .joined .ensures, served .serve .ensures, part .service-of .ensures, sym (tested .before .in-range .ensures) ∙ not-false _ (tested .if1 .left))
