@@ -5,11 +5,13 @@ use crate::block::{self, Block};
 use crate::frame::{self, Letter};
 use crate::numbers::Refusal;
 use crate::programme::{self, Programme};
+use crate::recipe::Recipe;
 use crate::reel;
 use crate::sample;
 use crate::scale;
 use crate::service::{Heard, Service, Sync, CHANNELS, CHARACTERS};
 use crate::superframe::{self, State};
+use crate::taking::{self, Lengths, MOST_LENT};
 use crate::text;
 use crate::word::Reading;
 use std::str::Split;
@@ -137,6 +139,17 @@ pub fn answer(line: &str) -> Option<String> {
                 Err(refusal) => format!("{} {}", refusal.number(), state_text(&state)),
             }
         }
+        "take" => {
+            let lengths = Lengths {
+                bytes: words.number(0, taking::MOST_BYTES as i64)? as usize,
+                samples: words.number(0, MOST_LENT as i64)? as usize,
+                marks: words.number(0, MOST_LENT as i64)? as usize,
+            };
+            let seed = words.number(0, i64::from(u32::MAX))? as u32;
+            let recipe = Recipe::of(seed, words.bytes_of_length()?);
+            let state = words.state()?;
+            taking::answer(&state, lengths, &recipe).ok()?
+        }
         _ => return None,
     };
     match words.next() {
@@ -151,6 +164,13 @@ fn one<T: ToString>(result: Result<T, Refusal>) -> String {
         Ok(value) => format!("0 {}", value.to_string()),
         Err(refusal) => refusal.number().to_string(),
     }
+}
+
+/// A number that tells the values and their order: 0, and with each value 31 times the number so far and the value.
+pub fn sum(values: impl IntoIterator<Item = u32>) -> u32 {
+    values.into_iter().fold(0, |sum: u32, value| {
+        sum.wrapping_mul(31).wrapping_add(value)
+    })
 }
 
 /// A run of no bytes is written as a dash.
@@ -290,15 +310,11 @@ impl<'a> Words<'a> {
         let factor = self.small()?;
         let start = self.signed()?;
         let count = self.number(0, MOST_SWEPT.min(32768 - i64::from(start)))? as i32;
-        let mut sum: u32 = 0;
-        for number in start..start + count {
-            let value = match call(number, factor) {
-                Ok(value) => (value + 32768) as u32,
-                Err(refusal) => 65536 + u32::from(refusal.number()),
-            };
-            sum = sum.wrapping_mul(31).wrapping_add(value);
-        }
-        Some(format!("0 {sum}"))
+        let values = (start..start + count).map(|number| match call(number, factor) {
+            Ok(value) => (value + 32768) as u32,
+            Err(refusal) => 65536 + u32::from(refusal.number()),
+        });
+        Some(format!("0 {}", sum(values)))
     }
 }
 

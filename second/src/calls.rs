@@ -1,6 +1,7 @@
 //! Making call lines: those that can be gone through one by one, and random ones. README.md gives the grammar.
 
 mod random;
+mod superframes;
 mod systematic;
 
 use crate::answer::state_text;

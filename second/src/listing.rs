@@ -14,9 +14,10 @@ pub fn list(input: impl Read, output: &mut impl Write) -> io::Result<()> {
         superframes += 1;
         match answer {
             Ok(taken) => {
-                total.clean += taken.counts.clean;
-                total.mended += taken.counts.mended;
-                total.bad += taken.counts.bad;
+                let counts = taken.counts();
+                total.clean += counts.clean;
+                total.mended += counts.mended;
+                total.bad += counts.bad;
             }
             Err(_) => lost += 1,
         }

@@ -12,6 +12,8 @@ use crate::word::Reading;
 pub const FRAMES: usize = 64;
 pub const PROGRAMMES: usize = 16;
 pub const BYTES: usize = 2 * FRAMES * frame::BYTES;
+/// How many samples a superframe hands on, and how many marks.
+pub const SAMPLES: usize = FRAMES * CHANNELS;
 /// In place of a factor.
 pub const MISSING: u8 = 8;
 
@@ -49,10 +51,24 @@ pub struct Counts {
 pub struct Taken {
     pub samples: Vec<[i16; CHANNELS]>,
     pub marks: Vec<[u8; CHANNELS]>,
-    pub counts: Counts,
+    /// Of the four blocks of A and the four of B, each over 64 frames.
+    pub blocks: [Counts; 8],
     pub extra: Vec<Extra>,
     pub six: [u8; 6],
     pub heard: Heard,
+}
+
+impl Taken {
+    /// Of all 512 blocks.
+    pub fn counts(&self) -> Counts {
+        self.blocks
+            .iter()
+            .fold(Counts::default(), |sum, block| Counts {
+                clean: sum.clean + block.clean,
+                mended: sum.mended + block.mended,
+                bad: sum.bad + block.bad,
+            })
+    }
 }
 
 impl State {
@@ -109,25 +125,44 @@ impl State {
         }
     }
 
+    /// The same into lent lists, which have to have a place for each sample and each mark. Only a superframe
+    /// that is taken writes.
+    pub fn take_into(
+        &self,
+        bytes: &[u8],
+        samples: &mut [i16],
+        marks: &mut [u8],
+    ) -> (Result<Taken, Refusal>, State) {
+        if samples.len() != SAMPLES || marks.len() != SAMPLES {
+            return (Err(Refusal::Length), self.clone());
+        }
+        let (answer, next) = self.take(bytes);
+        if let Ok(taken) = &answer {
+            samples.copy_from_slice(taken.samples.as_flattened());
+            marks.copy_from_slice(taken.marks.as_flattened());
+        }
+        (answer, next)
+    }
+
     fn hear(&self, received: &Received) -> Result<(Taken, State), Refusal> {
         let mut samples = vec![[0; CHANNELS]; FRAMES];
         let mut marks = vec![[NO_FACTOR; CHANNELS]; FRAMES];
-        let mut counts = Counts::default();
+        let mut counts = [Counts::default(); 8];
         let mut extra = vec![[0; scale::EXTRA]; PROGRAMMES];
         for (f, blocks) in received.blocks.iter().enumerate() {
             for (b, block) in blocks.iter().enumerate() {
                 let (reading, block) = block::read(block)?;
                 let mark = match reading {
                     Reading::Clean => {
-                        counts.clean += 1;
+                        counts[b].clean += 1;
                         0
                     }
                     Reading::Mended(_) => {
-                        counts.mended += 1;
+                        counts[b].mended += 1;
                         1
                     }
                     Reading::Bad => {
-                        counts.bad += 1;
+                        counts[b].bad += 1;
                         2
                     }
                 };
@@ -165,7 +200,7 @@ impl State {
         let taken = Taken {
             samples,
             marks,
-            counts,
+            blocks: counts,
             extra,
             six: received.six,
             heard,

@@ -51,7 +51,7 @@ fn write_taken(taken: &Taken, output: &mut impl Write) -> io::Result<()> {
     let word = |extra: &Extra| format!("{:06x}", extra.information);
     let words = text::spaced(taken.extra.iter().map(word));
     writeln!(output, "words {words}")?;
-    let counts = &taken.counts;
+    let counts = taken.counts();
     let (clean, mended, bad) = (counts.clean, counts.mended, counts.bad);
     writeln!(output, "blocks {clean} {mended} {bad}")?;
     for (f, (marks, samples)) in taken.marks.iter().zip(&taken.samples).enumerate() {

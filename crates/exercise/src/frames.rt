@@ -24,7 +24,7 @@ fn read_letter(line: &[u8], at: usize) -> Lettered {
     }
 }
 
-fn letter_of(is_b: bool) -> Letter {
+pub(crate) fn letter_of(is_b: bool) -> Letter {
     if is_b { Letter::B } else { Letter::A }
 }
 

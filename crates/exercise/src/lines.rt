@@ -8,22 +8,20 @@ use crate::samples;
 use crate::samples::Way;
 use crate::scales;
 use crate::states;
+use crate::takes;
 use crate::words;
 use crate::words::Name;
 
-// Which of the calls a line names, in the order of `called`.
+// Which of the calls a line names, in the order of what follows.
 fn name_of(line: &[u8]) -> Name {
     words::named(
         line,
-        b" bwrite bread bcodes fwrite fread code sample codes samples factor swrite sread sextra pread pwrite name header run part fresh lose service",
+        b" bwrite bread bcodes fwrite fread code sample codes samples factor swrite sread sextra pread pwrite name header run part fresh lose service take",
     )
 }
 
-// The page as it was where the line is none of the calls.
-fn called(line: &[u8], page: Page) -> Page {
-    let name = name_of(line);
-    let number = name.number;
-    let at = name.next;
+// Of the calls on blocks, main frames, samples and scale words.
+fn sound_called(number: usize, line: &[u8], at: usize, page: Page) -> Page {
     match number {
         0 => blocks::write(line, at, page),
         1 => blocks::read(line, at, page),
@@ -37,7 +35,13 @@ fn called(line: &[u8], page: Page) -> Page {
         9 => samples::factor(line, at, page),
         10 => scales::write(line, at, page),
         11 => scales::read(line, at, page),
-        12 => scales::extra(line, at, page),
+        _ => scales::extra(line, at, page),
+    }
+}
+
+// Of the others.
+fn other_called(number: usize, line: &[u8], at: usize, page: Page) -> Page {
+    match number {
         13 => programmes::read(line, at, page),
         14 => programmes::write(line, at, page),
         15 => programmes::name(line, at, page),
@@ -47,8 +51,18 @@ fn called(line: &[u8], page: Page) -> Page {
         19 => states::fresh(line, at, page),
         20 => states::lose(line, at, page),
         21 => states::service(line, at, page),
+        22 => takes::take(line, at, page),
         _ => page,
     }
+}
+
+// The page as it was where the line is none of the calls.
+fn called(line: &[u8], page: Page) -> Page {
+    let name = name_of(line);
+    if name.number < 13 {
+        return sound_called(name.number, line, name.next, page);
+    }
+    other_called(name.number, line, name.next, page)
 }
 
 // The line with its answer and a line end.

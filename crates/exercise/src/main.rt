@@ -1,15 +1,19 @@
 // Makes the calls that standard input asks for, a line each, and writes each line with its answer behind it, so that a program that shares
 // nothing with this one can check the answers. second/README.md, "Call lines", has the form of lines and answers.
 mod blocks; // blocks.rt: bwrite, bread, bcodes
+mod draws; // draws.rt: numbers that look random
 mod frames; // frames.rt: fwrite, fread
 mod lines; // lines.rt: a line answered by what it calls
 mod pages; // pages.rt: a line and its answer, as text
 mod programmes; // programmes.rt: pread, pwrite, name
+mod recipes; // recipes.rt: the superframe of a call
 mod reels; // reels.rt: header, run, part
 mod samples; // samples.rt: code, sample, codes, samples, factor
 mod scales; // scales.rt: swrite, sread, sextra
 mod signs; // signs.rt: numbers with a sign, and numbers without
 mod states; // states.rt: fresh, lose, service
+mod sums; // sums.rt: what stands for a long list in an answer
+mod takes; // takes.rt: take
 mod words; // words.rt: the words of a line
 
 // What is held of the line that is being read.
@@ -82,7 +86,7 @@ fn take(piece: &[u8], line: &mut [u8], before: Held) -> Held {
 
 // A proved loop has to end, and nothing says that the input does: so the turns are counted, from a number that no run uses up.
 fn main() {
-    let mut line = [0u8; 751];
+    let mut line = [0u8; 772];
     let mut held = Held {
         count: 0,
         spilled: false,

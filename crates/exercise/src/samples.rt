@@ -2,6 +2,7 @@
 ghost use Prim.Native.Nat.{_<_};
 use crate::pages::Page;
 use crate::signs;
+use crate::sums;
 use crate::words;
 use sample::Chosen;
 use sample::Coded;
@@ -74,7 +75,7 @@ fn sum_of(way: Way, factor: u8, start: u64, end: u64) -> u64
     let mut sum: u64 = 0;
     let mut n = start;
     while n < end {
-        sum = (sum * 31 + weight(way, signs::unshifted(n), factor)) % 4_294_967_296;
+        sum = sums::added(sum, weight(way, signs::unshifted(n), factor));
         n += 1;
     }
     sum

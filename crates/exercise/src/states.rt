@@ -5,9 +5,9 @@ use crate::words::Small;
 use superframe::State;
 
 // A state, and the place behind its six words.
-struct Read {
-    state: State,
-    next: usize,
+pub(crate) struct Read {
+    pub(crate) state: State,
+    pub(crate) next: usize,
 }
 
 // A byte for each channel, and the place behind them.
@@ -31,7 +31,7 @@ fn read_byte(line: &[u8], at: usize) -> Small {
     }
 }
 
-fn read_state(line: &[u8], at: usize) -> Read {
+pub(crate) fn read_state(line: &[u8], at: usize) -> Read {
     let of_next = read_channels(line, at);
     let of_after = read_channels(line, of_next.next);
     let position = read_byte(line, of_after.next);
@@ -53,7 +53,7 @@ fn read_state(line: &[u8], at: usize) -> Read {
     Read { state, next: place }
 }
 
-fn put_channels(page: Page, bytes: &[u8; 32]) -> Page {
+pub(crate) fn put_channels(page: Page, bytes: &[u8; 32]) -> Page {
     page.hex(bytes)
 }
 
@@ -66,7 +66,7 @@ fn put_labels(page: Page, labels: &[u8; 256]) -> Page {
     page.hex(labels)
 }
 
-fn put_state(mut page: Page, state: State) -> Page {
+pub(crate) fn put_state(mut page: Page, state: State) -> Page {
     let next = state.next;
     let after = state.after;
     let group = state.group;

@@ -37,7 +37,7 @@ const NONE: usize = 0;
 // No number of a line is larger.
 pub(crate) const MOST: u64 = 4_294_967_295;
 
-fn byte_at(line: &[u8], at: usize) -> u8 {
+pub(crate) fn byte_at(line: &[u8], at: usize) -> u8 {
     if at < line.len() {
         return line[at];
     }

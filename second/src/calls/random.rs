@@ -1,6 +1,6 @@
 //! Random call lines: good, at the edges, damaged and out of range.
 
-use super::{service, state, turn, written};
+use super::{service, state, superframes, turn, written};
 use crate::answer::{hex_or_dash, state_text, MOST_BYTES, MOST_RUN, MOST_SAMPLES, MOST_SWEPT};
 use crate::bits::{self, Bit};
 use crate::block::Block;
@@ -22,25 +22,26 @@ pub fn random(seed: u64, count: u64) -> impl Iterator<Item = String> {
 
 type Kind = fn(&mut Random) -> String;
 
-/// How often each kind of line comes.
-const KINDS: [(usize, Kind); 17] = [
-    (3, block_write),
-    (6, block_read),
-    (2, block_codes),
-    (3, frame_write),
-    (3, frame_read),
-    (1, code),
-    (1, sample),
-    (1, sweep),
-    (2, factor_of_samples),
-    (1, scale_write),
-    (2, scale_read),
-    (2, extra_read),
-    (1, programme_read),
-    (1, programme_write),
-    (1, header),
-    (1, run),
-    (9, state_call),
+/// How often each kind of line comes; taking a superframe is the longest work by far.
+const KINDS: [(usize, Kind); 18] = [
+    (9, block_write),
+    (18, block_read),
+    (6, block_codes),
+    (9, frame_write),
+    (9, frame_read),
+    (3, code),
+    (3, sample),
+    (3, sweep),
+    (6, factor_of_samples),
+    (3, scale_write),
+    (6, scale_read),
+    (6, extra_read),
+    (3, programme_read),
+    (3, programme_write),
+    (3, header),
+    (3, run),
+    (27, state_call),
+    (1, take),
 ];
 
 fn block_codes(random: &mut Random) -> String {
@@ -310,8 +311,8 @@ fn random_state(random: &mut Random) -> State {
     state
 }
 
-fn random_service(random: &mut Random) -> String {
-    let state = random_state(random);
+/// Six bytes, every second time of an empty group, and a sync, one time in five damaged.
+fn service_bits(random: &mut Random) -> ([u8; 6], Vec<Bit>) {
     let mut six: [u8; 6] = random.bytes();
     if random.percent(50) {
         six[..4].fill(0);
@@ -325,5 +326,17 @@ fn random_service(random: &mut Random) -> String {
         1 => sync = random.bits::<16>().to_vec(),
         _ => {}
     }
+    (six, sync)
+}
+
+fn random_service(random: &mut Random) -> String {
+    let state = random_state(random);
+    let (six, sync) = service_bits(random);
     service(&state, &six, &sync)
+}
+
+fn take(random: &mut Random) -> String {
+    let state = random_state(random);
+    let (six, sync) = service_bits(random);
+    superframes::random(random, state, six, &sync)
 }

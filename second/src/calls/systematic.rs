@@ -1,6 +1,6 @@
 //! Call lines that go through everything there is, or through every edge.
 
-use super::{service, state, turn, written};
+use super::{service, state, superframes, turn, written};
 use crate::answer::{state_text, MOST_RUN, MOST_SWEPT};
 use crate::bits;
 use crate::block;
@@ -16,7 +16,7 @@ type Lines = Box<dyn Iterator<Item = String>>;
 
 /// Everything that can be gone through: all programme bytes, names and modes, all samples and codes at
 /// all factors, all scale words and majorities, all choices of at most two wrong places of a block,
-/// and the edges of headers, runs and factors.
+/// and the edges of headers, runs, factors, states and superframes.
 pub fn all() -> impl Iterator<Item = String> {
     let parts: Vec<Lines> = vec![
         Box::new((0..=255).map(|byte| format!("pread {byte}"))),
@@ -33,6 +33,7 @@ pub fn all() -> impl Iterator<Item = String> {
         Box::new(run_edges()),
         Box::new(service_edges()),
         Box::new(["fresh".to_string()].into_iter()),
+        Box::new(superframes::all()),
         Box::new(unreadable()),
     ];
     parts.into_iter().flatten()
@@ -226,11 +227,15 @@ fn unreadable() -> impl Iterator<Item = String> {
         "lose",
         "lose 00",
         "service",
+        "take",
+        "take 5120 2048 2048",
     ];
-    bad.into_iter().map(str::to_string).chain([
+    let blanks = [
         good.replace(' ', "  "),
         format!("{good} "),
         format!(" {good}"),
         good.to_uppercase(),
-    ])
+    ];
+    let short = bad.into_iter().map(str::to_string);
+    short.chain(superframes::unreadable()).chain(blanks)
 }

@@ -168,7 +168,7 @@ fn lines_cover_the_surface() {
     let mut numbers: HashMap<&str, Vec<&str>> = HashMap::new();
     for line in text.lines() {
         let (call, answer) = line.split_once(" = ").unwrap();
-        assert!(call.len() <= 751 && line.len() <= 1986);
+        assert!(call.len() <= 772 && line.len() <= 1986);
         let name = call.split(' ').next().unwrap();
         let number = answer.split(' ').next().unwrap();
         let seen = numbers.entry(name).or_default();
@@ -199,6 +199,7 @@ fn lines_cover_the_surface() {
         ("fresh", "0"),
         ("lose", "02"),
         ("service", "02"),
+        ("take", "0123"),
     ] {
         for number in expected.chars() {
             let seen = &numbers[name];

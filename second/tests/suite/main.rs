@@ -12,4 +12,5 @@ mod samples;
 mod scales;
 mod services;
 mod superframes;
+mod takes;
 mod words;

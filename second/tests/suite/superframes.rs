@@ -33,7 +33,11 @@ fn every_channel_in_its_place() {
         }
         assert_eq!(taken.marks, [[0; 32]; 64]);
         assert_eq!(
-            (taken.counts.clean, taken.counts.mended, taken.counts.bad),
+            (
+                taken.counts().clean,
+                taken.counts().mended,
+                taken.counts().bad
+            ),
             (512, 0, 0)
         );
     }
@@ -69,7 +73,11 @@ fn mark_3_wins() {
     assert_eq!(taken.samples[0][5], 0);
     assert_eq!(taken.marks[1][4..8], [0, 3, 0, 0]);
     assert_eq!(
-        (taken.counts.clean, taken.counts.mended, taken.counts.bad),
+        (
+            taken.counts().clean,
+            taken.counts().mended,
+            taken.counts().bad
+        ),
         (511, 0, 1)
     );
 }
@@ -90,7 +98,7 @@ fn samples_of_mended_and_bad_blocks() {
         let mut marks = [0; 32];
         marks[16..20].fill(mark);
         assert_eq!(taken.marks[9], marks);
-        let counts = taken.counts;
+        let counts = taken.counts();
         let expected = [(512, 0, 0), (511, 1, 0), (511, 0, 1)][usize::from(mark)];
         assert_eq!((counts.clean, counts.mended, counts.bad), expected);
     }
@@ -134,7 +142,7 @@ fn number_5_inside_a_superframe() {
     let state = at_zero();
     let (taken, next) = state.take(&superframe.bytes());
     let taken = taken.unwrap();
-    assert_eq!(taken.counts.bad, 64);
+    assert_eq!(taken.counts().bad, 64);
     assert_eq!(
         (taken.extra[11].factors, taken.extra[11].information),
         (None, 0x3f_ffff)

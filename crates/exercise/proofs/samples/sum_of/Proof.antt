@@ -1,4 +1,4 @@
--- `exercise::samples::sum_of` is safe and ends. The sum stays below 2^32, and 31 times it fits. Assumes nothing.
+-- `exercise::samples::sum_of` is safe and ends. The sum stays below 2^32. Assumes nothing.
 use Prim.Native.Nat.{_-_, _<_}
 use borrow.Author.Needs.{needs}
 use Rattle.exercise.proofs.samples.sum_of.Statement.{statement}
@@ -13,17 +13,14 @@ abbrev μ-loop : tie.MeasureT-loop
 loop-holds : tie.Need-loop-holds Inv-loop μ-loop
 loop-holds c = search needs
 
-mul-sum : tie.Need-mul-sum Inv-loop μ-loop
-mul-sum c = search needs
-
 unshifted-requires : tie.Need-unshifted-requires Inv-loop μ-loop
 unshifted-requires c κs = search needs
 
 weight-requires : tie.Need-weight-requires Inv-loop μ-loop
 weight-requires c κs = search needs
 
-add-sum : tie.Need-add-sum Inv-loop μ-loop
-add-sum c = search needs
+added-requires : tie.Need-added-requires Inv-loop μ-loop
+added-requires c κs = search needs
 
 add-n : tie.Need-add-n Inv-loop μ-loop
 add-n c = search needs
@@ -44,10 +41,9 @@ sum-of-spec =
     Inv-loop
     μ-loop
     loop-holds
-    mul-sum
     unshifted-requires
     weight-requires
-    add-sum
+    added-requires
     add-n
     loop-less
     loop-again

@@ -1,0 +1,265 @@
+//! Call lines that take a superframe: every refusal in its order, every edge, and random ones.
+
+use super::state;
+use crate::answer::state_text;
+use crate::bits::{self, Bit};
+use crate::frame::{self, SYNC};
+use crate::random::Random;
+use crate::recipe::Recipe;
+use crate::service::{CHANNELS, SYNC_1, SYNC_2};
+use crate::superframe::{self, State, FRAMES, MISSING};
+use crate::taking::{Lengths, MOST_BYTES, MOST_LENT};
+use crate::text;
+
+/// In the second byte of a main frame.
+const LAST_SYNC_BIT: u8 = 32;
+
+/// One bit away from both syncs.
+const NEITHER: &str = "0000010111011111";
+
+/// What one line asks for.
+#[derive(Clone)]
+struct Asked {
+    state: State,
+    lengths: Lengths,
+    recipe: Recipe,
+}
+
+impl Asked {
+    /// A superframe that is taken, with blocks of every reading.
+    fn good(name: &[u64]) -> Asked {
+        let mut random = Random::stream(&[&[202], name].concat());
+        let recipe = Recipe {
+            seed: random.between(0, i64::from(u32::MAX)) as u32,
+            service: service(random.bytes(), &bits::of_text(SYNC_2)),
+            rate: 8,
+            scale: 16,
+            place: 0,
+            turned: 0,
+        };
+        Asked {
+            state: state(&mut random, 3, 2, false),
+            lengths: Lengths::RIGHT,
+            recipe,
+        }
+    }
+
+    fn line(&self) -> String {
+        let Lengths {
+            bytes,
+            samples,
+            marks,
+        } = self.lengths;
+        format!(
+            "take {bytes} {samples} {marks} {} {} {}",
+            self.recipe.seed,
+            text::hex(&self.recipe.bytes()),
+            state_text(&self.state)
+        )
+    }
+}
+
+/// The 64 service bits as eight bytes.
+fn service(six: [u8; 6], sync: &[Bit]) -> [u8; 8] {
+    let mut service = [0; 8];
+    service[..6].copy_from_slice(&six);
+    service[6..].copy_from_slice(&bits::to_bytes(sync));
+    service
+}
+
+/// The systematic lines.
+pub fn all() -> impl Iterator<Item = String> {
+    let parts = [
+        refusals_in_order(),
+        length_edges(),
+        every_sync(),
+        every_position(),
+        every_damage(),
+        every_factor(),
+    ];
+    parts.into_iter().flatten().map(|asked| asked.line())
+}
+
+/// A length, the state and a sync, each right or wrong, in all combinations.
+fn refusals_in_order() -> Vec<Asked> {
+    let right = Lengths::RIGHT;
+    let lengths = [
+        right,
+        Lengths {
+            bytes: right.bytes - 1,
+            ..right
+        },
+        Lengths {
+            samples: right.samples + 1,
+            ..right
+        },
+        Lengths {
+            marks: right.marks - 1,
+            ..right
+        },
+    ];
+    let mut all = Vec::new();
+    for lengths in lengths {
+        for field in 0..=FIELDS {
+            for turned in [0, LAST_SYNC_BIT] {
+                let mut asked = Asked::good(&[1, field]);
+                asked.lengths = lengths;
+                spoil(&mut asked.state, field, MISSING + 1, 31);
+                asked.recipe.place = (superframe::BYTES - frame::BYTES + 1) as u16;
+                asked.recipe.turned = turned;
+                all.push(asked);
+            }
+        }
+    }
+    all
+}
+
+/// How many fields of a state have a range.
+const FIELDS: u64 = 4;
+
+/// Puts a number out of range into a field, 1 to 4, or leaves the state alone.
+fn spoil(state: &mut State, field: u64, wrong: u8, channel: usize) {
+    match field {
+        1 => state.now[channel] = wrong,
+        2 => state.after[channel] = wrong,
+        3 => state.service.position = wrong,
+        4 => state.service.stage = wrong,
+        _ => {}
+    }
+}
+
+/// Each slice by itself empty, shorter, longer and as long as can be, and all of them at once.
+fn length_edges() -> Vec<Asked> {
+    let around = |right: usize, most: usize| [0, 1, right / 2, right - 1, right + 1, most];
+    let right = Lengths::RIGHT;
+    let mut all = Vec::new();
+    for (n, bytes) in around(right.bytes, MOST_BYTES).into_iter().enumerate() {
+        let lent = around(right.samples, MOST_LENT)[n];
+        let (samples, marks) = (lent, lent);
+        for lengths in [
+            Lengths { bytes, ..right },
+            Lengths { samples, ..right },
+            Lengths { marks, ..right },
+            Lengths {
+                bytes,
+                samples,
+                marks,
+            },
+        ] {
+            let mut asked = Asked::good(&[2]);
+            asked.lengths = lengths;
+            all.push(asked);
+        }
+    }
+    all
+}
+
+/// One wrong bit in the sync of each main frame, every bit in its turn; then bits behind the sync, of which only the service bit
+/// of A says something.
+fn every_sync() -> Vec<Asked> {
+    let single = (0..2 * FRAMES).map(|n| (n, n % SYNC));
+    let behind = [0, 63, 64, 127].into_iter().map(|n| (n, frame::SERVICE));
+    let asked = single.chain(behind).map(|(n, bit)| {
+        let mut asked = Asked::good(&[3]);
+        asked.recipe.place = (frame::BYTES * n + bit / 8) as u16;
+        asked.recipe.turned = 128 >> (bit % 8);
+        asked
+    });
+    asked.collect()
+}
+
+/// Every position and the stages that matter, with each sync; where the separator is searched for, it comes.
+fn every_position() -> Vec<Asked> {
+    let mut all = Vec::new();
+    for position in 0..=8 {
+        for stage in [0, 1, 5, 8] {
+            let mut asked = Asked::good(&[4, u64::from(position), u64::from(stage)]);
+            let mut random = Random::stream(&[203, u64::from(position), u64::from(stage)]);
+            asked.state = state(&mut random, position, stage, stage == 0);
+            let mut six: [u8; 6] = random.bytes();
+            if stage == 0 {
+                six[..4].fill(0);
+            }
+            for sync in [SYNC_1, SYNC_2, NEITHER] {
+                asked.recipe.service = service(six, &bits::of_text(sync));
+                all.push(asked.clone());
+            }
+        }
+    }
+    all
+}
+
+/// From no wrong place to one in two.
+fn every_damage() -> Vec<Asked> {
+    let mut all = Vec::new();
+    for rate in [0, 1, 4, 8, 12, 16, 32, 128, 255] {
+        for scale in [0, 16, 64, 128] {
+            let mut asked = Asked::good(&[5, u64::from(rate), u64::from(scale)]);
+            asked.recipe.rate = rate;
+            asked.recipe.scale = scale;
+            all.push(asked);
+        }
+    }
+    all
+}
+
+/// All channels at one factor, or without.
+fn every_factor() -> Vec<Asked> {
+    let asked = (0..=MISSING).map(|factor| {
+        let mut asked = Asked::good(&[6, u64::from(factor)]);
+        asked.state.now = [factor; CHANNELS];
+        asked
+    });
+    asked.collect()
+}
+
+/// A line with one word that is not of its kind, each in its turn.
+pub fn unreadable() -> impl Iterator<Item = String> {
+    let good = Asked::good(&[7]).line();
+    let wrong = ["10241", "4097", "4097", "4294967296", "00"];
+    (0..wrong.len()).map(move |n| {
+        let mut words: Vec<&str> = good.split(' ').collect();
+        words[n + 1] = wrong[n];
+        words.join(" ")
+    })
+}
+
+/// A random line: mostly taken, else with a wrong length, a state out of range, a wrong sync, or several of them.
+pub fn random(random: &mut Random, state: State, six: [u8; 6], sync: &[Bit]) -> String {
+    let mut lengths = Lengths::RIGHT;
+    if random.percent(15) {
+        lengths.bytes = length(random, lengths.bytes, MOST_BYTES);
+        lengths.samples = length(random, lengths.samples, MOST_LENT);
+        lengths.marks = length(random, lengths.marks, MOST_LENT);
+    }
+    // One time in five bits of the first two bytes of a main frame, where its sync is.
+    let (place, turned) = match random.below(5) {
+        0 => {
+            let n = random.index(2 * FRAMES);
+            (frame::BYTES * n + random.index(2), random.byte())
+        }
+        _ => (random.index(superframe::BYTES), 0),
+    };
+    let recipe = Recipe {
+        seed: random.between(0, i64::from(u32::MAX)) as u32,
+        service: service(six, sync),
+        rate: random.one_of(&[0, 1, 4, 8, 8, 12, 16, 128]),
+        scale: random.one_of(&[0, 8, 32, 64, 128]),
+        place: place as u16,
+        turned,
+    };
+    let asked = Asked {
+        state,
+        lengths,
+        recipe,
+    };
+    asked.line()
+}
+
+fn length(random: &mut Random, right: usize, most: usize) -> usize {
+    match random.below(4) {
+        0 => random.one_of(&[0, 1, right - 1, right + 1, most]),
+        1 => random.index(most + 1),
+        _ => right,
+    }
+}
