@@ -61,6 +61,20 @@ fn state(random: &mut Random, position: u8, stage: u8, zero: bool) -> State {
     }
 }
 
+/// How many fields of a state have a range.
+const FIELDS: u64 = 4;
+
+/// Puts a number that is out of range into one of those fields; any field past them leaves the state alone.
+fn spoil(state: &mut State, field: u64, channel: usize, wrong: u8) {
+    match field {
+        0 => state.now[channel] = wrong,
+        1 => state.after[channel] = wrong,
+        2 => state.service.position = wrong,
+        3 => state.service.stage = wrong,
+        _ => {}
+    }
+}
+
 fn service(state: &State, six: &[u8; 6], sync: &[Bit]) -> String {
     format!(
         "service {} {} {}",

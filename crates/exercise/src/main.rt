@@ -54,10 +54,10 @@ fn finish(line: &[u8], held: Held) {
     }
     let page = lines::answer(&line[0..count]);
     let bytes = page.bytes;
-    write_first(&bytes, page.count);
+    write_answer(&bytes, page.count);
 }
 
-fn write_first(out: &[u8], end: usize) {
+fn write_answer(out: &[u8], end: usize) {
     if end <= out.len() {
         io::write_all(1, &out[0..end]);
     }

@@ -91,7 +91,8 @@ fn gather(bytes: &[u8], b: usize) -> [u8; 77]
 pub fn block_of(bytes: &[u8], b: usize) -> Gathered
     ensures { λ r. ⌜ r ≡ gatheredOf (now (bytes .entry)) b ⌝ }
 {
-    if bytes.len() != 40 {
+    let n = bytes.len();
+    if n != 40 {
         return Gathered {
             number: 1,
             bits: [0u8; 77],

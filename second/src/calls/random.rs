@@ -1,6 +1,6 @@
 //! Random call lines: good, at the edges, damaged and out of range.
 
-use super::{service, state, superframes, turn, written};
+use super::{service, spoil, state, superframes, turn, written, FIELDS};
 use crate::answer::{hex_or_dash, state_text, MOST_BYTES, MOST_RUN, MOST_SAMPLES, MOST_SWEPT};
 use crate::bits::{self, Bit};
 use crate::block::Block;
@@ -301,13 +301,8 @@ fn random_state(random: &mut Random) -> State {
     let zero = random.percent(40);
     let mut state = state(random, position, stage, zero);
     let wrong = random.one_of(&[MISSING + 1, 10, 127, 128, 255]);
-    match random.below(20) {
-        0 => state.now[random.index(CHANNELS)] = wrong,
-        1 => state.after[random.index(CHANNELS)] = wrong,
-        2 => state.service.position = wrong,
-        3 => state.service.stage = wrong,
-        _ => {}
-    }
+    let field = random.below(5 * FIELDS);
+    spoil(&mut state, field, random.index(CHANNELS), wrong);
     state
 }
 

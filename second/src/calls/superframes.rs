@@ -1,6 +1,6 @@
 //! Call lines that take a superframe: every refusal in its order, every edge, and random ones.
 
-use super::state;
+use super::{spoil, state, FIELDS};
 use crate::answer::state_text;
 use crate::bits::{self, Bit};
 use crate::frame::{self, SYNC};
@@ -104,7 +104,7 @@ fn refusals_in_order() -> Vec<Asked> {
             for turned in [0, LAST_SYNC_BIT] {
                 let mut asked = Asked::good(&[1, field]);
                 asked.lengths = lengths;
-                spoil(&mut asked.state, field, MISSING + 1, 31);
+                spoil(&mut asked.state, field, CHANNELS - 1, MISSING + 1);
                 asked.recipe.place = (superframe::BYTES - frame::BYTES + 1) as u16;
                 asked.recipe.turned = turned;
                 all.push(asked);
@@ -112,20 +112,6 @@ fn refusals_in_order() -> Vec<Asked> {
         }
     }
     all
-}
-
-/// How many fields of a state have a range.
-const FIELDS: u64 = 4;
-
-/// Puts a number out of range into a field, 1 to 4, or leaves the state alone.
-fn spoil(state: &mut State, field: u64, wrong: u8, channel: usize) {
-    match field {
-        1 => state.now[channel] = wrong,
-        2 => state.after[channel] = wrong,
-        3 => state.service.position = wrong,
-        4 => state.service.stage = wrong,
-        _ => {}
-    }
 }
 
 /// Each slice by itself empty, shorter, longer and as long as can be, and all of them at once.

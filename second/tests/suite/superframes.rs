@@ -142,7 +142,7 @@ fn number_5_inside_a_superframe() {
     let state = at_zero();
     let (taken, next) = state.take(&superframe.bytes());
     let taken = taken.unwrap();
-    assert_eq!(taken.counts().bad, 64);
+    assert_eq!((taken.counts().bad, taken.blocks[5].bad), (64, 64));
     assert_eq!(
         (taken.extra[11].factors, taken.extra[11].information),
         (None, 0x3f_ffff)

@@ -1,13 +1,14 @@
 //! Lines that take a superframe: how it is made, what is answered, and which lines there are.
 
-use crate::hand::{busy_state, SYNC_1};
+use crate::hand::busy_state;
 use second::answer::{answer, state_text};
 use second::bits;
 use second::calls;
 use second::frame;
 use second::recipe::Recipe;
+use second::scale::Extra;
 use second::service::Sync;
-use second::superframe::{State, Taken};
+use second::superframe::{Counts, State, Taken};
 use std::collections::HashSet;
 
 /// A superframe as it is written, with nothing turned.
@@ -204,86 +205,75 @@ fn refusals() {
     assert!(taken.starts_with("0 "));
 }
 
-/// The whole answer: labels come, one programme has no factors.
+/// Everything handed out stands in the answer: here labels come, and some programmes' scale words cannot be read.
 #[test]
 fn answer_of_a_superframe() {
     let mut state = busy_state();
-    state.now = [0; 32];
-    state.now[31] = 8;
     state.service.position = 8;
     state.service.stage = 8;
-    let mut recipe = plain(3);
-    recipe.rate = 12;
-    // Of the last programme's scale words more bits are turned than can be read over.
-    recipe.scale = (0..=255)
-        .find(|scale| {
-            recipe.scale = *scale;
-            let taken = taken(&state, &recipe);
-            taken.extra.iter().filter(|e| e.factors.is_none()).count() == 1
-        })
-        .unwrap();
-    let taken = taken(&state, &recipe);
-    let (_, next) = state.take(&recipe.superframe().unwrap());
-    let mut words = vec!["0".to_string(), state_text(&next)];
-    for count in [
-        taken.blocks.map(|counts| counts.clean),
-        taken.blocks.map(|counts| counts.mended),
-        taken.blocks.map(|counts| counts.bad),
-    ] {
-        assert!(count.iter().all(|n| (1..63).contains(n)));
-        words.push(count.iter().map(|n| format!("{n:02x}")).collect());
-    }
-    let numbers = taken.extra.iter().map(|e| match e.factors {
-        Some(_) => '0',
-        None => '5',
-    });
-    words.push(numbers.collect());
-    let factors = taken.extra.iter().map(|e| match e.factors {
+    let recipe = Recipe {
+        rate: 12,
+        scale: 60,
+        ..plain(3)
+    };
+    let (taken, next) = state.take(&recipe.superframe().unwrap());
+    let taken = taken.unwrap();
+    let hex = |count: fn(&Counts) -> u64| -> String {
+        let counts = taken.blocks.iter().map(count);
+        counts.map(|count| format!("{count:02x}")).collect()
+    };
+    let number = |e: &Extra| if e.factors.is_some() { '0' } else { '5' };
+    let factors = |e: &Extra| match e.factors {
         Some((left, right)) => format!("0{left}0{right}"),
         None => "0808".to_string(),
-    });
-    words.push(factors.collect());
-    let information: Vec<u64> = taken.extra.iter().map(|e| e.information.into()).collect();
-    words.push(sum(&information).to_string());
-    words.push("8001123456ff".to_string());
-    words.push("801".to_string());
-    let labels: Vec<u64> = taken
-        .heard
-        .labels
-        .unwrap()
-        .as_flattened()
-        .iter()
-        .map(|b| (*b).into())
-        .collect();
-    words.push(sum(&labels).to_string());
+    };
+    let numbers: String = taken.extra.iter().map(number).collect();
+    let factors: String = taken.extra.iter().map(factors).collect();
+    assert!(numbers.contains('0') && numbers.contains('5'));
+    let words: Vec<u64> = taken.extra.iter().map(|e| e.information.into()).collect();
+    let labels = taken.heard.labels.unwrap();
+    let labels: Vec<u64> = labels.as_flattened().iter().map(|b| (*b).into()).collect();
+    // The second half of the room is not lent.
     let samples = taken.samples.as_flattened().iter();
     let mut samples: Vec<u64> = samples.map(|x| (i64::from(*x) + 32768) as u64).collect();
-    samples.resize(4096, 32768);
-    let mut marks: Vec<u64> = taken
-        .marks
-        .as_flattened()
-        .iter()
-        .map(|m| (*m).into())
-        .collect();
+    samples.resize(4096, 32768 - 21555);
+    let marks = taken.marks.as_flattened().iter();
+    let mut marks: Vec<u64> = marks.map(|mark| (*mark).into()).collect();
     marks.resize(4096, 165);
-    for place in &mut samples[2048..] {
-        *place -= 21555;
-    }
-    words.push(sum(&samples).to_string());
-    words.push(sum(&marks).to_string());
-    assert_eq!(
-        answer(&line("5120 2048 2048", &recipe, &state)),
-        Some(words.join(" "))
-    );
-    assert_eq!(bits::of_text(SYNC_1), bits::of_bytes(&recipe.service[6..]));
+    let expected = [
+        "0".to_string(),
+        state_text(&next),
+        hex(|counts| counts.clean),
+        hex(|counts| counts.mended),
+        hex(|counts| counts.bad),
+        numbers,
+        factors,
+        sum(&words).to_string(),
+        "8001123456ff".to_string(),
+        "801".to_string(),
+        sum(&labels).to_string(),
+        sum(&samples).to_string(),
+        sum(&marks).to_string(),
+    ];
+    let said = answer(&line("5120 2048 2048", &recipe, &state));
+    assert_eq!(said, Some(expected.join(" ")));
+}
+
+fn byte(word: &str, n: usize) -> usize {
+    usize::from_str_radix(&word[2 * n..2 * n + 2], 16).unwrap()
+}
+
+/// The place of the byte in which bits are turned, and those bits.
+fn turned_in(words: &[&str]) -> (usize, usize) {
+    let recipe = words[5];
+    let place = 256 * byte(recipe, 10) + byte(recipe, 11);
+    (place, byte(recipe, 12))
 }
 
 /// Which of the three faults a line has, by its words: a wrong length, a number out of range, a wrong sync.
 fn faults(words: &[&str]) -> [bool; 3] {
-    let byte = |word: &str, n: usize| u16::from_str_radix(&word[2 * n..2 * n + 2], 16).unwrap();
-    let all = |word: &str| (0..word.len() / 2).any(|n| byte(word, n) > 8);
-    let recipe = words[5];
-    let (place, turned) = (256 * byte(recipe, 10) + byte(recipe, 11), byte(recipe, 12));
+    let over = |word: &str| (0..word.len() / 2).any(|n| byte(word, n) > 8);
+    let (place, turned) = turned_in(words);
     let sync = match place % 40 {
         0 => 0xff,
         1 => 0xe0,
@@ -291,43 +281,65 @@ fn faults(words: &[&str]) -> [bool; 3] {
     };
     [
         words[1..4] != ["5120", "2048", "2048"],
-        words[6..10].iter().any(|word| all(word)),
+        words[6..10].iter().any(|word| over(word)),
         place < 5120 && turned & sync != 0,
     ]
 }
 
-/// Each line's number is that of its first fault. All faults come alone and together, and a superframe
-/// that is taken brings every reading, number 5, number 7 and labels.
+/// The answer to a readable `take` line, whose number is that of its first fault.
+fn answered(line: &str, faults: [bool; 3]) -> Vec<String> {
+    let number = faults.iter().position(|fault| *fault).map_or(0, |n| n + 1);
+    let answer = answer(line).unwrap();
+    let said: Vec<String> = answer.split(' ').map(str::to_string).collect();
+    assert_eq!(said[0], number.to_string(), "{line}");
+    assert!(number == 0 || answer.ends_with(&nothing()), "{line}");
+    said
+}
+
+/// In the systematic lines all faults come alone and together, in every main frame and every bit of a sync; and
+/// superframes that are taken bring every reading, number 5, and at each position 0 and 7, with labels and without.
 #[test]
-fn lines() {
-    let mut seen = HashSet::new();
-    let mut brought = HashSet::new();
-    for line in calls::all().chain(calls::random(1, 5000)) {
-        let words: Vec<&str> = line.split(' ').collect();
-        if words[0] != "take" || words.len() < 12 {
+fn systematic_lines() {
+    let mut unreadable = 0;
+    let (mut seen, mut brought) = (HashSet::new(), HashSet::new());
+    let (mut frames, mut syncs) = (HashSet::new(), HashSet::new());
+    for line in calls::all().filter(|line| line.starts_with("take")) {
+        if answer(&line).is_none() {
+            unreadable += 1;
             continue;
         }
+        let words: Vec<&str> = line.split(' ').collect();
         let faults = faults(&words);
         seen.insert(faults);
-        let number = faults.iter().position(|fault| *fault).map_or(0, |n| n + 1);
-        let answer = answer(&line).unwrap();
-        let said: Vec<&str> = answer.split(' ').collect();
-        assert_eq!(said[0], number.to_string(), "{line}");
-        if number > 0 {
-            assert!(answer.ends_with(&nothing()));
-            continue;
+        let said = answered(&line, faults);
+        if said[0] == "3" {
+            let (place, turned) = turned_in(&words);
+            frames.insert(place / 40);
+            syncs.insert((place % 40, turned));
         }
-        for (n, reading) in ["clean", "mended", "bad"].into_iter().enumerate() {
-            if said[7 + n] != "0".repeat(16) {
-                brought.insert(reading);
-            }
+        if said[0] == "0" {
+            let readings = (0..3).filter(|n| said[7 + n] != "0".repeat(16));
+            brought.extend(readings.map(|reading| format!("reading {reading}")));
+            brought.insert(format!("5 {}", said[10].contains('5')));
+            brought.insert(said[14].clone());
         }
-        if said[10].contains('5') && said[10].contains('0') {
-            brought.insert("5");
-        }
-        brought.insert(&["service 0", "service 7"][usize::from(&said[13][1..2] == "7")]);
-        brought.insert(&["no labels", "labels"][usize::from(said[13].ends_with('1'))]);
     }
-    assert_eq!(seen.len(), 8);
-    assert_eq!(brought.len(), 8);
+    // Two that are too short, and one for each word before the state.
+    assert_eq!(unreadable, 7);
+    assert_eq!((seen.len(), frames.len(), syncs.len()), (8, 128, 11));
+    // Three readings; with number 5 and without; nine positions with 0 and 7, and at the last one labels too.
+    assert_eq!(brought.len(), 3 + 2 + 18 + 2);
+}
+
+/// Of the random lines some are refused with each number, and more than half are not.
+#[test]
+fn random_lines() {
+    let mut count = [0; 4];
+    for line in calls::random(1, 30000).filter(|line| line.starts_with("take")) {
+        let faults = faults(&line.split(' ').collect::<Vec<_>>());
+        let said = answered(&line, faults);
+        count[said[0].parse::<usize>().unwrap()] += 1;
+    }
+    assert!(count.iter().all(|times| *times > 10));
+    assert!(2 * count[0] > count.iter().sum());
 }
