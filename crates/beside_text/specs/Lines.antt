@@ -6,6 +6,7 @@
 --     factorsLine numbers factors       those of the 16 programmes
 --     wordsLine words                   the 16 information words, each of 22 bits in three bytes
 --     besideText t                      all four lines of a superframe taken
+--     informationLine t                 the words alone, or that the superframe was lost
 use Prim.Native.Nat.{ℕ}
 use mathlib.Core.Bool.{Bool, cond}
 use mathlib.Core.List.{List, _∷_, _++_}
@@ -42,3 +43,6 @@ besideText t =
     ++ (labelsLine (t .complete) (t .labels)
     ++ (factorsLine (t .programmes .numbers) (t .programmes .factors)
     ++ wordsLine (t .programmes .words)))
+
+unfoldable pub informationLine : Taken → List ℕ
+informationLine t = cond (eqb (t .number) 0) (wordsLine (t .programmes .words)) (letters "lost\n")

@@ -3,7 +3,7 @@ ghost use mathlib.Core.Path.{_≡_};
 ghost use Rattle.bits.specs.Digits.{digits};
 ghost use Rattle.text.specs.Page.{page, putText};
 ghost use Rattle.text_rows.specs.Turns.{inTurn, part};
-ghost use Rattle.beside_text.specs.Lines.{nextHex, serviceLine, labelsLine, pairText, factorsLine, wordsLine, besideText};
+ghost use Rattle.beside_text.specs.Lines.{nextHex, serviceLine, labelsLine, pairText, factorsLine, wordsLine, besideText, informationLine};
 use superframe::Taken;
 
 fn put_next_hex(out: &mut [u8], to: usize, bytes: &[u8]) -> usize
@@ -91,6 +91,18 @@ fn put_words(out: &mut [u8], to: usize, words: [u32; 16]) -> usize
         q += 1;
     }
     text::put(out, end, b'\n')
+}
+
+// A line of information words alone, as the folder for the restorers has it for each superframe; `lost` for one that was not taken.
+pub fn put_information(out: &mut [u8], to: usize, taken: Taken) -> usize
+    ensures { λ r. ⌜ page (now (out .exit)) r ≡ putText (page (now (out .entry)) to) (informationLine taken) ⌝ }
+{
+    if taken.number != 0 {
+        return text::put_all(out, to, b"lost\n");
+    }
+    let programmes = taken.programmes;
+    let words = programmes.words;
+    put_words(out, to, words)
 }
 
 // From a place on; the place behind the lines is answered, in the way of `text`.

@@ -1,6 +1,7 @@
 -- How a program says that it ended.
 --     endingOf promised read     how a reel ends, by the superframes that its header promises and those that were read
 --     errorLine word e           a word, a blank and C's number of an error, on a line
+--     fileLine e name            of a file that failed: its word, a blank, C's number of the error, a blank and its name, on a line
 --     wordOf ended               what is said of each way to end, on a line
 --     descriptorOf bytes         the descriptor that an argument names: one digit from 3 to 9, as 0, 1 and 2 are taken; 0 for anything else
 -- No two ways to end are said in one word (`words-apart`), and a word has at most 17 letters (`error-fits`, both in proofs/Word.antt).
@@ -19,6 +20,9 @@ endingOf promised read = cond (eqb promised read) Whole Short
 
 unfoldable pub errorLine : List ℕ → ℕ → List ℕ
 errorLine word e = word ++ ((blank ∷ decimal e) ++ (10 ∷ []))
+
+unfoldable pub fileLine : ℕ → List ℕ → List ℕ
+fileLine e name = letters "file" ++ ((blank ∷ decimal e) ++ ((blank ∷ []) ++ (name ++ (10 ∷ []))))
 
 abbrev pub wordOf : Ended → List ℕ
 wordOf Whole = letters "ok\n"

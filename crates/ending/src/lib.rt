@@ -2,7 +2,7 @@
 // its first argument names, and without such an argument it says nothing.
 ghost use mathlib.Core.Path.{_≡_};
 ghost use Rattle.text.specs.Page.{page, putText};
-ghost use Rattle.ending.specs.Word.{descriptorOf, endingOf, errorLine, wordOf};
+ghost use Rattle.ending.specs.Word.{descriptorOf, endingOf, errorLine, fileLine, wordOf};
 
 pub enum Ended {
     // all was read and written
@@ -37,6 +37,17 @@ fn put_error(out: &mut [u8], to: usize, word: &[u8], error: u32) -> usize
     text::put(out, number, b'\n')
 }
 
+// The word of a file that failed, with its name.
+pub fn put_file(out: &mut [u8], to: usize, error: u32, name: &[u8]) -> usize
+    ensures { λ r. ⌜ page (now (out .exit)) r ≡ putText (page (now (out .entry)) to) (fileLine error (now (name .entry))) ⌝ }
+{
+    let word = text::put_all(out, to, b"file");
+    let number = text::put_next(out, word, error as u64);
+    let blank = text::put(out, number, b' ');
+    let behind = text::put_all(out, blank, name);
+    text::put(out, behind, b'\n')
+}
+
 pub fn put_word(out: &mut [u8], to: usize, ended: Ended) -> usize
     ensures { λ r. ⌜ page (now (out .exit)) r ≡ putText (page (now (out .entry)) to) (wordOf ended) ⌝ }
 {
@@ -69,15 +80,27 @@ pub fn descriptor_of(argument: &[u8]) -> u8
     digit - b'0'
 }
 
-// Says how the program ended, to whoever asked for it.
-pub fn say(ended: Ended) {
+// Writes the first bytes of a page to whoever asked for a word.
+fn write_word(page: &[u8], end: usize) {
     let mut argument = [0u8; 16];
     let n = os::arg(1, &mut argument);
     let fd = descriptor_of(&argument[..n]);
     if fd == 0 {
         return;
     }
+    streams::write_first(fd as i32, page, end);
+}
+
+// Says how the program ended, to whoever asked for it.
+pub fn say(ended: Ended) {
     let mut out = [0u8; 32];
     let end = put_word(&mut out, 0, ended);
-    streams::write_first(fd as i32, &out, end);
+    write_word(&out, end);
+}
+
+// Says which file failed, by its name, and how.
+pub fn say_file(error: u32, name: &[u8]) {
+    let mut out = [0u8; 64];
+    let end = put_file(&mut out, 0, error, name);
+    write_word(&out, end);
 }

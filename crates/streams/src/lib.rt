@@ -5,7 +5,7 @@ mod progress;
 pub use progress::show;
 pub use progress::wipe;
 ghost use mathlib.Core.Path.{_≡_};
-ghost use Prim.Native.Nat.{_<_};
+ghost use Prim.Native.Nat.{_<_, _≤_};
 ghost use lib.IntN.{pos};
 ghost use lib.ListN.{length};
 ghost use Rattle.io.specs.Counts.{Counts};
@@ -28,6 +28,13 @@ fn error_of(number: i32) -> u32
     number as u32
 }
 
+// What was wrong with the call of the system that has just failed.
+pub fn failed() -> u32
+    ensures { λ r. ⌜ Told r × (1 ≤ r) ⌝ }
+{
+    error_of(os::errno())
+}
+
 // Reads until the buffer is full, the input ends or a read fails. Where it is full, none failed.
 pub fn fill(fd: i32, buf: &mut [u8]) -> Filled
     ensures { λ r. ⌜ Counts (r .n) (now (buf .exit)) ⌝ }
@@ -39,7 +46,7 @@ pub fn fill(fd: i32, buf: &mut [u8]) -> Filled
         if got < 0 {
             return Filled {
                 n: n,
-                error: error_of(os::errno()),
+                error: failed(),
             };
         }
         let more = io::count(got, &buf[n..]);
@@ -58,7 +65,7 @@ pub fn write(fd: i32, bytes: &[u8]) -> u32
     if io::write_all(fd, bytes) {
         return 0;
     }
-    error_of(os::errno())
+    failed()
 }
 
 // Writes the bytes of a page before a place. A place behind the page is none: nothing is written, and that is an error.

@@ -13,7 +13,7 @@ use lib.ListN.{length}
 use Rattle.bits.proofs.Tests.{either-way}
 use Rattle.reel.specs.Header.{mostSuperframes}
 use Rattle.tape.specs.Tape.{synced, blocksOf, noBlocks, refusedCounts, countedWith, syncNumber, countsOf}
-use Rattle.tally.specs.Totals.{grown, sumOf, noTotals, withCounted, stepped, totalsFrom, totalsOf}
+use Rattle.tally.specs.Totals.{grown, sumOf, noTotals, withCounted, addedTo, stepOf, stepped, totalsFrom, totalsOf}
 use Rattle.tally.specs.Reel.{isLost, blocksWith, total, counted, Superframes}
 use Rattle.tally.specs.declared.Totals.{Totals}
 use Rattle.tally.proofs.Order.{tallied-sum}
@@ -53,7 +53,7 @@ same-totals : (a b c d e a' b' c' d' e' : ℕ) → a ≡ a' → b ≡ b' → c �
 same-totals a b c d e a' b' c' d' e' p q r s t = rw (p, q, r, s, t) refl
 
 withOne : (t : Totals) (sf : List ℕ) → length sf ≡ 5120 →
-    stepped t sf ≡
+    addedTo t (countsOf sf) .next ≡
     record {
       superframes = grown (t .superframes) 1;
       lost = grown (t .lost) (isLost sf);
@@ -61,7 +61,7 @@ withOne : (t : Totals) (sf : List ℕ) → length sf ≡ 5120 →
       mended = grown (t .mended) (blocksWith 1 sf);
       bad = grown (t .bad) (blocksWith 2 sf);
     }
-unfolding stepped withCounted countsOf syncNumber countedWith refusedCounts isLost blocksWith blocksOf noBlocks sumOf
+unfolding addedTo withCounted countsOf syncNumber countedWith refusedCounts isLost blocksWith blocksOf noBlocks sumOf
 withOne t sf l =
     rw (eq-eqb (length sf) 5120 l)
     (either-way (synced sf)
@@ -73,6 +73,7 @@ withOne t sf l =
     (λ e. rw e refl))
 
 step-adds : (t : Totals) (sf : List ℕ) (n : ℕ) → length sf ≡ 5120 → Room t (suc n) → stepped t sf ≡ added t (one sf)
+unfolding stepOf
 step-adds t sf n l r =
     let w = blocks-whole sf in
     withOne t sf l

@@ -3,7 +3,8 @@ use mathlib.Core.Path.{_≡_}
 use mathlib.Core.List.{List}
 use Prim.Native.Nat.{ℕ}
 use Rattle.bits.proofs.Unique.{same}
-use Rattle.tally.specs.Totals.{sumOf, noTotals, stepOf}
+use Rattle.tally.specs.Totals.{sumOf, noTotals, addedTo, stepOf}
+use Rattle.tape.specs.declared.blocks.Counted.{Counted}
 use Rattle.tally.specs.declared.Step.{Step}
 use Rattle.tally.specs.declared.Totals.{Totals}
 
@@ -12,6 +13,9 @@ sum-unique r r' l = same
 
 pub none-unique : (r r' : Totals) → r ≡ noTotals → r' ≡ noTotals → r ≡ r'
 none-unique r r' = same
+
+pub add-unique : (r r' : Step) (t : Totals) (c : Counted) → r ≡ addedTo t c → r' ≡ addedTo t c → r ≡ r'
+add-unique r r' t c = same
 
 pub step-unique : (r r' : Step) (t : Totals) (sf : List ℕ) → r ≡ stepOf t sf → r' ≡ stepOf t sf → r ≡ r'
 step-unique r r' t sf = same

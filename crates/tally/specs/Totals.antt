@@ -2,12 +2,14 @@
 --     grown total by        a total and what is added; it stops at the largest number of 64 bits
 --     sumOf l               the sum of some numbers
 --     noTotals              before the first superframe
---     stepped t sf          after one superframe more: it is read, perhaps lost, and its blocks are clean, mended or bad
---     stepOf t sf           what a step answers: number 1 and the totals as they were for bytes of another length, else 0 and the totals after it. A
---                           lost superframe is counted and not refused: the listing goes on after it
+--     withCounted t c       after one superframe more, by what was counted in it: it is read, perhaps lost, and its blocks are clean, mended or bad
+--     isCounted n           whether a superframe counted under a number is one more: number 0, and 3 for a lost one. The listing goes on after it
+--     addedTo t c           what is answered: 0 and the totals with it, or the number of what is none and the totals as they were
+--     stepOf t sf           the same for a superframe by its bytes
+--     stepped t sf          the totals after it
 --     totalsOf sfs          after all of some superframes, in order
 use Prim.Native.Nat.{ℕ, _+_, _-_, _^_, min}
-use mathlib.Core.Bool.{cond}
+use mathlib.Core.Bool.{Bool, true, cond}
 use mathlib.Core.List.{List, [], _∷_}
 use lib.Dec.{eqb}
 use Rattle.tape.specs.Tape.{countsOf}
@@ -36,12 +38,17 @@ withCounted t c =
       bad = grown (t .bad) (sumOf (c .blocks .bad));
     }
 
--- bytes of another length are no superframe
-unfoldable pub stepped : Totals → List ℕ → Totals
-stepped t sf = cond (eqb (countsOf sf .number) 1) t (withCounted t (countsOf sf))
+abbrev pub isCounted : ℕ → Bool
+isCounted n = cond (eqb n 0) true (eqb n 3)
+
+unfoldable pub addedTo : Totals → Counted → Step
+addedTo t c = cond (isCounted (c .number)) (record { number = 0; next = withCounted t c }) (record { number = c .number; next = t })
 
 unfoldable pub stepOf : Totals → List ℕ → Step
-stepOf t sf = record { number = cond (eqb (countsOf sf .number) 1) 1 0; next = stepped t sf }
+stepOf t sf = addedTo t (countsOf sf)
+
+abbrev pub stepped : Totals → List ℕ → Totals
+stepped t sf = stepOf t sf .next
 
 unfoldable pub totalsFrom : Totals → List (List ℕ) → Totals
 totalsFrom t [] = t

@@ -1,6 +1,7 @@
 // The totals of a listing (docs/FORMAT.md, "Reel file and listing"), which grow by one superframe at a time.
 ghost use mathlib.Core.Path.{_≡_};
-ghost use Rattle.tally.specs.Totals.{grown, sumOf, noTotals, stepOf};
+ghost use Rattle.tally.specs.Totals.{grown, isCounted, sumOf, noTotals, addedTo, stepOf};
+use tape::Counted;
 
 pub struct Totals {
     // whole superframes read, lost ones among them
@@ -26,6 +27,16 @@ fn grow(total: u64, by: u64) -> u64
         return u64::MAX;
     }
     total + by
+}
+
+// Whether there is a superframe under a number: under 0, and under 3 a lost one.
+fn is_counted(number: u8) -> bool
+    ensures { λ r. ⌜ r ≡ isCounted number ⌝ }
+{
+    if number == 0 {
+        return true;
+    }
+    number == 3
 }
 
 // Of the counts of the eight block positions.
@@ -55,17 +66,13 @@ impl Totals {
         }
     }
 
-    // One superframe more. What is none, by its length, is refused with 1; a lost one is counted, and is no refusal.
-    pub fn step(self, superframe: &[u8]) -> Step
-        ensures { λ r. ⌜ r ≡ stepOf self (now (superframe .entry)) ⌝ }
+    // One superframe more, by what was counted in it. A lost one is counted, and is no refusal; under any other number there is nothing to add.
+    pub fn add(self, counted: Counted) -> Step
+        ensures { λ r. ⌜ r ≡ addedTo self counted ⌝ }
     {
-        let counted = tape::counts(superframe);
         let number = counted.number;
-        if number == 1 {
-            return Step {
-                number: 1,
-                next: self,
-            };
+        if !is_counted(number) {
+            return Step { number, next: self };
         }
         let lost = if number == 3 { 1 } else { 0 };
         let blocks = counted.blocks;
@@ -80,5 +87,12 @@ impl Totals {
             bad: grow(self.bad, sum(bad)),
         };
         Step { number: 0, next }
+    }
+
+    // One superframe more. What is none, by its length, is refused with 1.
+    pub fn step(self, superframe: &[u8]) -> Step
+        ensures { λ r. ⌜ r ≡ stepOf self (now (superframe .entry)) ⌝ }
+    {
+        self.add(tape::counts(superframe))
     }
 }

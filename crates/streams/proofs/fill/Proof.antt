@@ -29,11 +29,8 @@ part-read-end c = search needs
 read-requires : tie.Need-read-requires Inv-loop μ-loop
 read-requires c κs = search needs
 
-errno-requires : tie.Need-errno-requires Inv-loop μ-loop
-errno-requires c κs = search needs
-
-error-of-requires : tie.Need-error-of-requires Inv-loop μ-loop
-error-of-requires c κs = search needs
+failed-requires : tie.Need-failed-requires Inv-loop μ-loop
+failed-requires c κs = search needs
 
 same-length : tie.Need-same-length Inv-loop μ-loop
 same-length c = search needs
@@ -85,8 +82,7 @@ fill-spec =
     part-read-start
     part-read-end
     read-requires
-    errno-requires
-    error-of-requires
+    failed-requires
     same-length
     returns
     sub-count
