@@ -9,6 +9,7 @@ pub mod check;
 pub mod damage;
 pub mod division;
 pub mod frame;
+pub mod hand_on;
 pub mod listing;
 pub mod make;
 pub mod numbers;

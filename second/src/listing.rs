@@ -1,37 +1,56 @@
 //! The listing of a reel (document 01, "Reel file and listing").
 
+use crate::numbers::Refusal;
 use crate::reel::{self, End};
-use crate::superframe::{Counts, State};
+use crate::superframe::{Counts, State, Taken};
 use std::io::{self, Read, Write};
 
 pub fn list(input: impl Read, output: &mut impl Write) -> io::Result<()> {
     let mut state = State::fresh();
-    let (mut superframes, mut lost) = (0, 0);
-    let mut total = Counts::default();
+    let mut tally = Tally::default();
     let end = reel::walk(input, |bytes| {
         let (answer, next) = state.take(bytes);
         state = next;
-        superframes += 1;
+        tally.add(&answer);
+        Ok(())
+    })?;
+    tally.write(end, output)
+}
+
+/// What a listing counts.
+#[derive(Default)]
+pub struct Tally {
+    superframes: u64,
+    lost: u64,
+    total: Counts,
+}
+
+impl Tally {
+    /// One superframe more.
+    pub fn add(&mut self, answer: &Result<Taken, Refusal>) {
+        self.superframes += 1;
         match answer {
             Ok(taken) => {
                 let counts = taken.counts();
-                total.clean += counts.clean;
-                total.mended += counts.mended;
-                total.bad += counts.bad;
+                self.total.clean += counts.clean;
+                self.total.mended += counts.mended;
+                self.total.bad += counts.bad;
             }
-            Err(_) => lost += 1,
+            Err(_) => self.lost += 1,
         }
-        Ok(())
-    })?;
-    let end = match end {
-        End::Refused => return writeln!(output, "refused 8"),
-        End::Ok => "ok",
-        End::Short => "short",
-    };
-    writeln!(output, "superframes {superframes}")?;
-    writeln!(output, "lost {lost}")?;
-    writeln!(output, "clean {}", total.clean)?;
-    writeln!(output, "mended {}", total.mended)?;
-    writeln!(output, "bad {}", total.bad)?;
-    writeln!(output, "end {end}")
+    }
+
+    pub fn write(&self, end: End, output: &mut impl Write) -> io::Result<()> {
+        let end = match end {
+            End::Refused => return writeln!(output, "refused 8"),
+            End::Ok => "ok",
+            End::Short => "short",
+        };
+        writeln!(output, "superframes {}", self.superframes)?;
+        writeln!(output, "lost {}", self.lost)?;
+        writeln!(output, "clean {}", self.total.clean)?;
+        writeln!(output, "mended {}", self.total.mended)?;
+        writeln!(output, "bad {}", self.total.bad)?;
+        writeln!(output, "end {end}")
+    }
 }

@@ -1,6 +1,7 @@
-//! The command line: `second make | listing | transcript | calls | answer | check`.
+//! The command line: `second make | listing | transcript | hand-on | calls | answer | check`.
 
-use second::{calls, check, damage, listing, make, transcript};
+use second::{calls, check, damage, hand_on, listing, make, transcript};
+use std::ffi::OsString;
 use std::io::{self, BufWriter, Write};
 use std::process::ExitCode;
 
@@ -8,6 +9,7 @@ const USAGE: &str = "\
 second make SEED N [damage ...]   write a reel of N superframes
 second listing                    read a reel, write its listing
 second transcript                 read a reel, write every answer of the reader
+second hand-on FOLDER             read a reel, write the folder for the restorers
 second calls all                  write the systematic call lines
 second calls SEED N               write N random call lines
 second answer                     read call lines, write each with its answer
@@ -64,6 +66,14 @@ fn run(arguments: &[String], output: &mut impl Write) -> Result<ExitCode, Fault>
         }
         ["listing"] => listing::list(io::stdin().lock(), output)?,
         ["transcript"] => transcript::write(io::stdin().lock(), output)?,
+        ["hand-on", ..] => {
+            // A path and a name are bytes, and stay as they were given.
+            let words: Vec<OsString> = std::env::args_os().skip(2).collect();
+            let order = hand_on::Order::parse(&words);
+            let order = order.ok_or(format!("which folder?\n{USAGE}"))?;
+            let end = hand_on::write(io::stdin().lock(), &order)?;
+            transcript::write_end(end, output)?;
+        }
         ["calls", ref which @ ..] if !which.is_empty() => {
             for line in call_lines(which)? {
                 writeln!(output, "{line}")?;

@@ -25,6 +25,10 @@ pub fn write(input: impl Read, output: &mut impl Write) -> io::Result<()> {
             }
         }
     })?;
+    write_end(end, output)
+}
+
+pub fn write_end(end: End, output: &mut impl Write) -> io::Result<()> {
     match end {
         End::Ok => writeln!(output, "end ok"),
         End::Short => writeln!(output, "end short"),
@@ -48,9 +52,7 @@ fn write_taken(taken: &Taken, output: &mut impl Write) -> io::Result<()> {
     };
     let factors = text::spaced(taken.extra.iter().map(factors));
     writeln!(output, "factors {factors}")?;
-    let word = |extra: &Extra| format!("{:06x}", extra.information);
-    let words = text::spaced(taken.extra.iter().map(word));
-    writeln!(output, "words {words}")?;
+    writeln!(output, "{}", words_line(taken))?;
     let counts = taken.counts();
     let (clean, mended, bad) = (counts.clean, counts.mended, counts.bad);
     writeln!(output, "blocks {clean} {mended} {bad}")?;
@@ -59,4 +61,10 @@ fn write_taken(taken: &Taken, output: &mut impl Write) -> io::Result<()> {
         writeln!(output, "samples {} {}", f + 1, text::spaced(samples))?;
     }
     Ok(())
+}
+
+/// The information words, without an end of line.
+pub fn words_line(taken: &Taken) -> String {
+    let word = |extra: &Extra| format!("{:06x}", extra.information);
+    format!("words {}", text::spaced(taken.extra.iter().map(word)))
 }

@@ -39,6 +39,8 @@ fn unknown_words_get_a_message() {
         "check 1",
         "answer 1",
         "transcript 1",
+        "hand-on",
+        "hand-on folder name",
     ] {
         assert_eq!(run(words, b""), (Some(2), Vec::new(), true), "'{words}'");
     }
@@ -68,4 +70,25 @@ fn from_calls_to_verdict() {
     assert_eq!(run("check 3 50", &answers), (Some(0), verdict, false));
     assert_eq!(run("check 3 51", &answers).0, Some(1));
     assert_eq!(run("check", b"").0, Some(1));
+}
+
+#[test]
+fn from_made_to_handed_on() {
+    let folder = concat!(env!("CARGO_TARGET_TMPDIR"), "/commands");
+    let _ = std::fs::remove_dir_all(folder);
+    let words = format!("hand-on {folder} a.reel 0123");
+    let (_, reel, _) = run("make 1 3 short=1", b"");
+    assert_eq!(
+        run(&words, b"no reel"),
+        (Some(0), b"refused 8\n".to_vec(), false)
+    );
+    assert_eq!(
+        run(&words, &reel),
+        (Some(0), b"end short\n".to_vec(), false)
+    );
+    let about = std::fs::read(format!("{folder}/about.txt")).unwrap();
+    assert_eq!(about, b"reel a.reel\nradius 2\ncommit 0123\n");
+    // It is there now.
+    assert_eq!(run(&words, &reel), (Some(1), Vec::new(), true));
+    std::fs::remove_dir_all(folder).unwrap();
 }

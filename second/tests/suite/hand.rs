@@ -121,3 +121,13 @@ pub fn busy_state() -> State {
     }
     state
 }
+
+/// Bytes from hexadecimal digits with blanks between.
+pub fn unspaced(digits: &str) -> Vec<u8> {
+    let digits: Vec<u8> = digits.bytes().filter(|byte| *byte != b' ').collect();
+    let value = |digit: u8| char::from(digit).to_digit(16).unwrap() as u8;
+    digits
+        .chunks(2)
+        .map(|two| 16 * value(two[0]) + value(two[1]))
+        .collect()
+}
