@@ -1,5 +1,7 @@
 -- The kind of each pair of a programme: 0 untroubled, 1 bad, 2 no factor, 3 lost.
+--     troubling m           mark 2, or a number that is no mark
 --     kindOf a b            of the marks of its two samples: where one is 3, no factor; or else where one is 2 or is no mark, bad
+--     pairKind q marks f    of the pair of programme q in frame f, which counts from 0
 --     lostKinds             of the 64 pairs of a lost superframe
 --     kindsOf q marks       of the 64 pairs of programme q, 1 to 16, out of a superframe's 2,048 marks; refused as its marks are
 use Prim.Native.Nat.{ℕ, _+_, _*_, _-_}

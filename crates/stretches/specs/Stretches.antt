@@ -5,7 +5,7 @@
 --     fresh n           a stretch that starts at pair n and has none yet
 --     grow s n k        it goes on to pair n, which is of kind k
 --     met ss n k        the stretches up to pair n, the last one first, where ss are those before it: an untroubled pair changes nothing;
---                       another one lengthens the last stretch where fewer lie between, and else starts one
+--                       another one lengthens the last stretch where fewer than `rest` pairs lie between, and else starts one
 --     from ss n ks      the same over the kinds of pairs n, n + 1, ..
 --     stretches ks      the stretches of a list of kinds, the last one first
 --     opened o          the stretch that is not yet known to have ended, if there is one
