@@ -66,9 +66,9 @@ pub fn answer(line: &str) -> Option<String> {
         "fread" => {
             let letter = words.letter()?;
             let frame = frame::read(letter, &words.bytes()?);
-            one(frame.map(|(service, blocks)| {
-                let blocks = blocks.iter().map(|block| text::digits(block));
-                format!("{service} {}", text::spaced(blocks))
+            one(frame.map(|frame| {
+                let blocks = frame.blocks.iter().map(|block| text::digits(block));
+                format!("{} {} {}", frame.wrong, frame.service, text::spaced(blocks))
             }))
         }
         "code" => {

@@ -21,6 +21,7 @@ enum Kind {
     Copy,
     Majority,
     Sync,
+    Syncs,
     Service,
     Sync1,
     Sync2,
@@ -33,7 +34,7 @@ enum Kind {
 }
 
 /// Each word with the largest amount behind its `=`; None where it takes no amount.
-const WORDS: [(&str, Kind, Option<usize>); 18] = [
+const WORDS: [(&str, Kind, Option<usize>); 19] = [
     ("places", Kind::Places, Some(PROTECTED)),
     ("upto", Kind::UpTo, Some(PROTECTED)),
     ("rate", Kind::Rate, Some(10_000)),
@@ -43,6 +44,7 @@ const WORDS: [(&str, Kind, Option<usize>); 18] = [
     ("copy", Kind::Copy, None),
     ("majority", Kind::Majority, Some(WORD)),
     ("sync", Kind::Sync, Some(SYNC)),
+    ("syncs", Kind::Syncs, Some(SYNC)),
     ("service", Kind::Service, Some(16)),
     ("sync1", Kind::Sync1, None),
     ("sync2", Kind::Sync2, None),
@@ -171,6 +173,13 @@ impl Damage {
                 let frame = random.index(frames.len());
                 for n in random.places(self.amount, SYNC) {
                     frames[frame][n] ^= 1;
+                }
+            }
+            Kind::Syncs => {
+                for frame in frames {
+                    for n in random.places(self.amount, SYNC) {
+                        frame[n] ^= 1;
+                    }
                 }
             }
             Kind::Service => {

@@ -7,6 +7,8 @@ use crate::numbers::Refusal;
 pub const BYTES: usize = 40;
 pub const BITS: usize = 320;
 pub const SYNC: usize = 11;
+/// A sync with more wrong bits is refused (document 02, P1).
+pub const MOST_WRONG: usize = 2;
 /// Bit 12.
 pub const SERVICE: usize = 11;
 
@@ -63,13 +65,24 @@ pub fn write(
     Ok(())
 }
 
-/// The service bit, in B always 0, and the four blocks as received.
-pub fn read(letter: Letter, bytes: &[u8]) -> Result<(Bit, [Block; 4]), Refusal> {
+/// A main frame as received; nothing in it is put right.
+#[derive(Clone, Debug, PartialEq, Eq)]
+pub struct Frame {
+    /// In how many bits its sync differs from the letter's.
+    pub wrong: u8,
+    /// In B always 0.
+    pub service: Bit,
+    pub blocks: [Block; 4],
+}
+
+pub fn read(letter: Letter, bytes: &[u8]) -> Result<Frame, Refusal> {
     if bytes.len() != BYTES {
         return Err(Refusal::Length);
     }
     let frame = bits::of_bytes(bytes);
-    if frame[..SYNC] != letter.sync() {
+    let sync = letter.sync();
+    let wrong = (0..SYNC).filter(|n| frame[*n] != sync[*n]).count();
+    if wrong > MOST_WRONG {
         return Err(Refusal::Sync);
     }
     let service = match letter {
@@ -82,5 +95,9 @@ pub fn read(letter: Letter, bytes: &[u8]) -> Result<(Bit, [Block; 4]), Refusal> 
             *bit = frame[place(b + 1, n + 1) - 1];
         }
     }
-    Ok((service, blocks))
+    Ok(Frame {
+        wrong: wrong as u8,
+        service,
+        blocks,
+    })
 }

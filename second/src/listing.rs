@@ -22,6 +22,8 @@ pub fn list(input: impl Read, output: &mut impl Write) -> io::Result<()> {
 pub struct Tally {
     superframes: u64,
     lost: u64,
+    /// Wrong bits in the syncs of those that were not lost.
+    wrong: u64,
     total: Counts,
 }
 
@@ -31,6 +33,7 @@ impl Tally {
         self.superframes += 1;
         match answer {
             Ok(taken) => {
+                self.wrong += u64::from(taken.wrong);
                 let counts = taken.counts();
                 self.total.clean += counts.clean;
                 self.total.mended += counts.mended;
@@ -48,6 +51,7 @@ impl Tally {
         };
         writeln!(output, "superframes {}", self.superframes)?;
         writeln!(output, "lost {}", self.lost)?;
+        writeln!(output, "sync {}", self.wrong)?;
         writeln!(output, "clean {}", self.total.clean)?;
         writeln!(output, "mended {}", self.total.mended)?;
         writeln!(output, "bad {}", self.total.bad)?;

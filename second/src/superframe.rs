@@ -51,6 +51,8 @@ pub struct Counts {
 pub struct Taken {
     pub samples: Vec<[i16; CHANNELS]>,
     pub marks: Vec<[u8; CHANNELS]>,
+    /// The wrong bits of its 128 syncs, added.
+    pub wrong: u16,
     /// Of the four blocks of A and the four of B, each over 64 frames.
     pub blocks: [Counts; 8],
     pub extra: Vec<Extra>,
@@ -200,6 +202,7 @@ impl State {
         let taken = Taken {
             samples,
             marks,
+            wrong: received.wrong,
             blocks: counts,
             extra,
             six: received.six,
@@ -211,6 +214,7 @@ impl State {
 
 /// The bits of a superframe sorted, before any is mended.
 struct Received {
+    wrong: u16,
     /// For each of 64 frames the four blocks of A and the four of B.
     blocks: Vec<[Block; 8]>,
     six: [u8; 6],
@@ -218,25 +222,32 @@ struct Received {
 }
 
 impl Received {
-    /// Wrong length and wrong sync are refused; all 128 syncs have to be right.
+    /// Wrong length and wrong sync are refused; none of the 128 syncs may have too many wrong bits.
     fn read(bytes: &[u8]) -> Result<Received, Refusal> {
         let mut blocks = vec![[[0; block::LENGTH]; 8]; FRAMES];
         let mut service = Vec::with_capacity(FRAMES);
+        let mut wrong = 0;
         for (n, bytes) in bytes.chunks(frame::BYTES).enumerate() {
             let letter = letter(n + 1);
-            let (bit, four) = frame::read(letter, bytes)?;
+            let frame = frame::read(letter, bytes)?;
+            wrong += u16::from(frame.wrong);
             match letter {
                 Letter::A => {
-                    service.push(bit);
-                    blocks[n][..4].copy_from_slice(&four);
+                    service.push(frame.service);
+                    blocks[n][..4].copy_from_slice(&frame.blocks);
                 }
-                Letter::B => blocks[n - FRAMES][4..].copy_from_slice(&four),
+                Letter::B => blocks[n - FRAMES][4..].copy_from_slice(&frame.blocks),
             }
         }
         // Service bits 1 to 48 are six bytes, 49 to 64 the sync of the following service frame.
         let sync = service.split_off(48);
         let mut six = [0; 6];
         six.copy_from_slice(&bits::to_bytes(&service));
-        Ok(Received { blocks, six, sync })
+        Ok(Received {
+            wrong,
+            blocks,
+            six,
+            sync,
+        })
     }
 }

@@ -58,6 +58,7 @@ pub fn answer(state: &State, lengths: Lengths, recipe: &Recipe) -> Result<String
 /// All that is handed out beside samples, marks and state. It starts with 0 in every place, which is what a refusal leaves.
 #[derive(Default)]
 struct Beside {
+    wrong: u16,
     clean: [u8; 8],
     mended: [u8; 8],
     bad: [u8; 8],
@@ -77,6 +78,7 @@ impl Beside {
         let Some(taken) = taken else {
             return beside;
         };
+        beside.wrong = taken.wrong;
         for (b, counts) in taken.blocks.iter().enumerate() {
             beside.clean[b] = counts.clean as u8;
             beside.mended[b] = counts.mended as u8;
@@ -106,6 +108,7 @@ impl Beside {
     fn text(&self) -> String {
         let told = [self.position, self.service, self.complete];
         let words = [
+            self.wrong.to_string(),
             text::hex(&self.clean),
             text::hex(&self.mended),
             text::hex(&self.bad),

@@ -53,6 +53,7 @@ fn write_taken(taken: &Taken, output: &mut impl Write) -> io::Result<()> {
     let factors = text::spaced(taken.extra.iter().map(factors));
     writeln!(output, "factors {factors}")?;
     writeln!(output, "{}", words_line(taken))?;
+    writeln!(output, "sync {}", taken.wrong)?;
     let counts = taken.counts();
     let (clean, mended, bad) = (counts.clean, counts.mended, counts.bad);
     writeln!(output, "blocks {clean} {mended} {bad}")?;

@@ -41,6 +41,7 @@ fn put_read(read: FrameRead, mut page: Page) -> Page {
     if read.number != 0 {
         return page;
     }
+    page = page.next(read.wrong as u64);
     page = page.next(read.service as u64);
     page = put_block(page, &first);
     page = put_block(page, &second);

@@ -75,6 +75,7 @@ fn put_taken(mut page: Page, taken: Taken) -> Page {
     let labels = taken.labels;
     page = page.number(taken.number);
     page = states::put_state(page, next);
+    page = page.next(taken.wrong as u64);
     page = put_blocks(page, blocks);
     page = put_programmes(page, programmes);
     put_service(page, &six, &told, &labels)

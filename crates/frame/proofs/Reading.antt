@@ -1,7 +1,8 @@
 -- Laws of reading a frame.
 --     block-there                  a block that a frame has
 --     below-sent, below-service    what is carried of a bit is a bit, and so is what is read
---     reads                        what 40 bytes read as, by their bits, where the sync is right
+--     reads                        what 40 bytes read as, by their bits, where the sync has at most `mostWrong` wrong bits
+--     reads-right                  and where it is right
 --     read-zero, read-found        number 0 says that there are 40 bytes with at most `mostWrong` wrong sync bits, and what was found
 --     found-there                  each block found is gathered from its places
 --     sized-found, found-bits      so all four have 77 places, and every entry is 0 or 1
@@ -45,18 +46,14 @@ unfolding serviceRead
 below-service letter bytes = let small = below-sent letter (bitAt bytes 11) (bitAt-below bytes 11) in omega arith
 
 module _ (letter : Letter) (bytes bits : List ℕ) (sized : length bytes ≡ 40) (are : bitsOf bytes ≡ bits) where
-  pub reads : ((k : ℕ) → k < 11 → getD bits k 0 ≡ getD (syncWord letter) k 0)
-      → readFrame letter bytes ≡ found (serviceIn letter (getD bits 11 0)) (deinterleave bits 0 ∷ deinterleave bits 1 ∷ deinterleave bits 2 ∷ deinterleave bits 3 ∷ [])
+  pub reads : (w : ℕ) → wrongSync letter bytes ≡ w → w ≤ mostWrong
+      → readFrame letter bytes ≡ found w (serviceIn letter (getD bits 11 0)) (deinterleave bits 0 ∷ deinterleave bits 1 ∷ deinterleave bits 2 ∷ deinterleave bits 3 ∷ [])
   unfolding readFrame
-  reads sync =
-      let right : tabulate 11 (bitAt bytes) ≡ syncWord letter =
-      tab-ext 11 (bitAt bytes) (λ k. getD (syncWord letter) k 0) (λ k h. sym (bitsOf-at bytes k) ∙ ap (λ (l : List ℕ). getD l k 0) are ∙ sync k h)
-      ∙ sym (tab-getD 11 (syncWord letter) 0 (length-sync letter))
-      in
-      let none = sync-right letter bytes right in
+  reads w wrong few =
       rw (
         eq-eqb (length bytes) 40 sized,
-        le-leb (wrongSync letter bytes) mostWrong (omega arith),
+        wrong,
+        le-leb w mostWrong few,
         sent-read letter bytes,
         block-there bytes 0 (omega arith),
         block-there bytes 1 (omega arith),
@@ -64,6 +61,15 @@ module _ (letter : Letter) (bytes bits : List ℕ) (sized : length bytes ≡ 40)
         block-there bytes 3 (omega arith),
         are,
       )
+
+  pub reads-right : ((k : ℕ) → k < 11 → getD bits k 0 ≡ getD (syncWord letter) k 0)
+      → readFrame letter bytes ≡ found 0 (serviceIn letter (getD bits 11 0)) (deinterleave bits 0 ∷ deinterleave bits 1 ∷ deinterleave bits 2 ∷ deinterleave bits 3 ∷ [])
+  reads-right sync =
+      let right : tabulate 11 (bitAt bytes) ≡ syncWord letter =
+      tab-ext 11 (bitAt bytes) (λ k. getD (syncWord letter) k 0) (λ k h. sym (bitsOf-at bytes k) ∙ ap (λ (l : List ℕ). getD l k 0) are ∙ sync k h)
+      ∙ sym (tab-getD 11 (syncWord letter) 0 (length-sync letter))
+      in
+      reads 0 (sync-right letter bytes right) (omega arith)
 
 -- ---- a frame that was taken
 read-ways : (a b : Bool) (x y z : FrameRead) → (y .number ≡ 0 → ⊥) → (z .number ≡ 0 → ⊥) → cond a (cond b x y) z .number ≡ 0 → (a ≡ true) × (b ≡ true)
@@ -75,13 +81,13 @@ module _ (letter : Letter) (bytes : List ℕ) (taken : readFrame letter bytes .n
   tests : (eqb (length bytes) 40 ≡ true) × (leb (wrongSync letter bytes) mostWrong ≡ true)
   unfolding readFrame nothing
   tests =
-      read-ways (eqb (length bytes) 40) (leb (wrongSync letter bytes) mostWrong) (found (serviceRead letter bytes) (blocksIn bytes)) (nothing 3) (nothing 1)
+      read-ways (eqb (length bytes) 40) (leb (wrongSync letter bytes) mostWrong) (found (wrongSync letter bytes) (serviceRead letter bytes) (blocksIn bytes)) (nothing 3) (nothing 1)
       (suc-ne-zero 2) (suc-ne-zero 0) taken
 
   pub read-zero : (length bytes ≡ 40) × (wrongSync letter bytes ≤ mostWrong)
   read-zero = (eqb-true (length bytes) 40 (tests .0), leb-true (wrongSync letter bytes) mostWrong (tests .1))
 
-  pub read-found : readFrame letter bytes ≡ found (serviceRead letter bytes) (blocksIn bytes)
+  pub read-found : readFrame letter bytes ≡ found (wrongSync letter bytes) (serviceRead letter bytes) (blocksIn bytes)
   unfolding readFrame
   read-found = rw (tests .0, tests .1)
 

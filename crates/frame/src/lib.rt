@@ -9,9 +9,10 @@ pub enum Letter {
     B,
 }
 
-// Number 0, the service bit and the four blocks; or number 1 or 3 and zeros.
+// Number 0, how many bits of the sync are wrong, the service bit and the four blocks; or number 1 or 3 and zeros.
 pub struct FrameRead {
     pub number: u8,
+    pub wrong: u8,
     pub service: u8,
     pub first: [u8; 77],
     pub second: [u8; 77],
@@ -30,7 +31,7 @@ const SYNC_A: [u8; 11] = [1, 1, 1, 0, 0, 0, 1, 0, 0, 1, 0];
 const SYNC_B: [u8; 11] = [0, 0, 0, 1, 1, 1, 0, 1, 1, 0, 1];
 
 // How many wrong bits a sync may have.
-pub const MOST_WRONG: u8 = 0;
+pub const MOST_WRONG: u8 = 2;
 
 pub fn sync_of(letter: Letter) -> [u8; 11]
     ensures { λ r. ⌜ r ≡ syncWord letter ⌝ }
@@ -115,6 +116,7 @@ fn refused(number: u8) -> FrameRead
 {
     FrameRead {
         number,
+        wrong: 0,
         service: 0,
         first: [0u8; 77],
         second: [0u8; 77],
@@ -123,17 +125,20 @@ fn refused(number: u8) -> FrameRead
     }
 }
 
+// A main frame is handed on as it came: wrong bits of its sync are not put right.
 pub fn read(letter: Letter, bytes: &[u8]) -> FrameRead
     ensures { λ r. ⌜ r ≡ readFrame letter (now (bytes .entry)) ⌝ }
 {
     if bytes.len() != 40 {
         return refused(1);
     }
-    if MOST_WRONG < sync_errors(letter, bytes) {
+    let wrong = sync_errors(letter, bytes);
+    if MOST_WRONG < wrong {
         return refused(3);
     }
     FrameRead {
         number: 0,
+        wrong,
         service: service_of(letter, bytes),
         first: gather(bytes, 0),
         second: gather(bytes, 1),

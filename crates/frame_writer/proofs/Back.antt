@@ -3,8 +3,7 @@
 --     good-blocks, below-frame    entries that pass the test are bits, and so is the whole frame
 --     frame-bits, frame-bytes     the bits of a frame's bytes; there are 40
 --     written-reads               THE FIRST: a frame that was written reads as the service bit sent and the four blocks
---     bits-kept, right-writes     writing what was read makes the frame's bits again, but for B's service bit, where the sync is right
---     read-writes                 THE SECOND: what a frame reads as is written as that frame, B with its service bit 0
+--     bits-kept, right-writes     THE SECOND: where the sync is right, what a frame reads as is written as that frame, B with its service bit 0
 -- Assumes nothing.
 use mathlib.Core.Path.{_≡_, refl, sym, ap, _∙_, subst}
 use mathlib.Core.Bool.{true}
@@ -29,7 +28,7 @@ use Rattle.frame.proofs.Interleave.{below-interleave}
 use Rattle.frame.proofs.Parts.{below-parts}
 use Rattle.frame.proofs.Sync.{below-sync, sync-matches}
 use Rattle.frame.proofs.Places.{place-belongs, gathered-at, Sized, length-frame, frame-sync, frame-service, placed, blocks-gathered}
-use Rattle.frame.proofs.Reading.{below-sent, below-service, reads, read-zero, read-found, found-there, sized-found, found-bits}
+use Rattle.frame.proofs.Reading.{below-sent, below-service, reads-right, read-zero, read-found, found-there, sized-found, found-bits}
 use Rattle.frame_writer.specs.Write.{goodValues, FrameWritten, serviceCleared}
 use Rattle.frame_writer.proofs.Writing.{number-none, success, written-is}
 
@@ -62,9 +61,9 @@ module _ (letter : Letter) (s : ℕ) (blocks : List (List ℕ)) (sized : Sized b
   unfolding frameBytes
   frame-bytes = length-bytesOf (frameBits letter s blocks) ∙ ap (λ (n : ℕ). n / 8) (length-frame letter s blocks sized)
 
-  frame-reads : readFrame letter (frameBytes letter s blocks) ≡ found (serviceIn letter s) blocks
+  frame-reads : readFrame letter (frameBytes letter s blocks) ≡ found 0 (serviceIn letter s) blocks
   frame-reads =
-      reads letter (frameBytes letter s blocks) (frameBits letter s blocks) frame-bytes frame-bits (frame-sync letter s blocks sized)
+      reads-right letter (frameBytes letter s blocks) (frameBits letter s blocks) frame-bytes frame-bits (frame-sync letter s blocks sized)
       ∙ rw (
         frame-service letter s blocks sized,
         sent-twice letter s,
@@ -75,7 +74,7 @@ module _ (letter : Letter) (s : ℕ) (blocks : List (List ℕ)) (sized : Sized b
       )
 
 pub written-reads : (letter : Letter) (s : ℕ) (blocks : List (List ℕ)) (out frame : List ℕ) → Sized blocks
-    → FrameWritten letter s blocks out 0 frame → readFrame letter frame ≡ found (serviceIn letter s) blocks
+    → FrameWritten letter s blocks out 0 frame → readFrame letter frame ≡ found 0 (serviceIn letter s) blocks
 written-reads letter s blocks out frame sized w =
     let good = written-is letter s blocks out frame w in
     ap (readFrame letter) (good .2) ∙ frame-reads letter s blocks sized (good .0) (good .1)
@@ -137,8 +136,3 @@ module _ (letter : Letter) (bytes : List ℕ) (taken : readFrame letter bytes .n
         (success letter (serviceRead letter bytes) (blocksIn bytes) out 0
         (number-none (length out) (serviceRead letter bytes) (blocksIn bytes) sized (rw (le-leb (serviceRead letter bytes) 1 (below-service letter bytes), found-bits bytes)))
         (serviceCleared letter bytes) refl (sym (bytes-kept h)))
-
-  -- a sync that is taken has at most `mostWrong` wrong bits, and so none
-  pub read-writes : Below 256 bytes → (out : List ℕ) → length out ≡ 40
-      → FrameWritten letter (readFrame letter bytes .service) (blocksRead (readFrame letter bytes)) out 0 (serviceCleared letter bytes)
-  read-writes h out sized = let few = read-zero letter bytes taken .1 in right-writes (omega arith) h out sized

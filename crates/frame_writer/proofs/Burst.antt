@@ -1,9 +1,7 @@
 -- A run of at most four wrong consecutive bits in bits 13 to 320.
---     gathered-⊕             gathering a block goes with the sum of rows of bits
 --     burst-two              of a run of four at most two fall into each block
 --     survives               two turned places of a block do it no harm
---     damaged-block          a block read from a damaged frame is the block sent, with its part of the mask turned
---     damaged-reads          the frame is still read, with the service bit sent
+--     damaged-reads          the frame is still read, with no wrong sync bit and the service bit sent
 --     burst-survives         THE BURST: no block of it is bad, and the 44 protected sound bits of each come back as sent
 -- Assumes nothing.
 use mathlib.Core.Path.{_≡_, sym, ap, _∙_}
@@ -14,14 +12,12 @@ use native.Mathlib.Omega.{arith}
 use lib.ListN.{length, getD, take, drop, take-append-drop, length-drop}
 use lib.Seq.{take-take, length-take-le}
 use Rattle.bits.specs.Digits.{Below}
-use Rattle.bits.specs.Bits.{bitsOf, bytesOf, ones}
-use Rattle.bits.proofs.Table.{tab-ext}
+use Rattle.bits.specs.Bits.{ones}
 use Rattle.bits.proofs.Digits.{below-take, below-drop}
-use Rattle.bits.proofs.Bits.{length-bytesOf, bits-back, bit-below}
 use Rattle.bits.proofs.Answer.{accepted-same}
 use Rattle.bits.proofs.Ones.{ones-take, ones-window}
 use Rattle.remainder.specs.Polynomial.{_⊕_}
-use Rattle.remainder.proofs.Sum.{length-⊕, below-⊕, getD-⊕, ⊕-tab, take-⊕}
+use Rattle.remainder.proofs.Sum.{length-⊕, below-⊕, take-⊕}
 use Rattle.code.specs.Words.{CodeWord, encode}
 use Rattle.code.proofs.Distance.{distance-changed}
 use Rattle.reading.specs.Demand.{sent}
@@ -31,18 +27,14 @@ use Rattle.block.proofs.Demand.{third}
 use Rattle.frame.specs.Frame.{serviceIn, block, frameBits, placeOf, deinterleave}
 use Rattle.frame.specs.Read.{blockOf, found, readFrame}
 use Rattle.frame.specs.declared.Letter.{Letter}
-use Rattle.frame.proofs.Places.{length-gathered, Sized, length-frame, frame-sync, frame-service, blocks-gathered}
-use Rattle.frame.proofs.Reading.{block-there, reads}
+use Rattle.frame.proofs.Places.{length-gathered, Sized, frame-sync, frame-service}
+use Rattle.frame.proofs.Reading.{reads-right}
 use Rattle.frame_writer.specs.Write.{FrameWritten}
-use Rattle.frame_writer.specs.Burst.{damaged, damagedBlocks, Burst, Survives}
+use Rattle.frame_writer.specs.Damaged.{damaged, damagedBlocks}
+use Rattle.frame_writer.specs.Burst.{Burst, Survives}
 use Rattle.frame_writer.proofs.Writing.{written-is}
-use Rattle.frame_writer.proofs.Back.{sent-twice, good-blocks, below-frame, frame-bits}
-
-pub gathered-⊕ : (p q : List ℕ) (b : ℕ) → length p ≡ length q → deinterleave (p ⊕ q) b ≡ deinterleave p b ⊕ deinterleave q b
-unfolding deinterleave
-gathered-⊕ p q b h =
-    tab-ext 77 (λ j. getD (p ⊕ q) (placeOf b j) 0) (λ j. (getD p (placeOf b j) 0 + getD q (placeOf b j) 0) % 2) (λ j l. getD-⊕ p q (placeOf b j) h)
-    ∙ sym (⊕-tab 77 (λ j. getD p (placeOf b j) 0) (λ j. getD q (placeOf b j) 0))
+use Rattle.frame_writer.proofs.Back.{sent-twice, good-blocks}
+use Rattle.frame_writer.proofs.Damaged.{damaged-bits, damaged-size, damaged-gathered, damaged-block, untouched}
 
 -- every second place of four belongs to one block
 pub burst-two : (mask : List ℕ) → Burst mask → (b : ℕ) → ones (deinterleave mask b) ≤ 2
@@ -111,63 +103,27 @@ module _ (x m : List ℕ) (size : length x ≡ 77) (places : length m ≡ 77) (b
 
 -- ---- a written frame, damaged
 module _ (letter : Letter) (s : ℕ) (blocks : List (List ℕ)) (out frame : List ℕ) (sized : Sized blocks) (written : FrameWritten letter s blocks out 0 frame)
-    (mask : List ℕ) (places : length mask ≡ 320) where
-  bits : List ℕ
-  bits = frameBits letter s blocks
+    (mask : List ℕ) (burst : Burst mask) where
+  pub damaged-reads : readFrame letter (damaged frame mask) ≡ found 0 (serviceIn letter s) (damagedBlocks blocks mask)
+  damaged-reads =
+      let same = untouched letter s blocks out frame sized written mask (burst .sized) in
+      let gathered = damaged-gathered letter s blocks out frame sized written mask (burst .sized) in
+      reads-right letter (damaged frame mask) (frameBits letter s blocks ⊕ mask)
+      (damaged-size letter s blocks out frame sized written mask (burst .sized))
+      (damaged-bits letter s blocks out frame sized written mask (burst .sized))
+      (λ k h. same k (burst .before k (omega arith)) ∙ frame-sync letter s blocks sized k h)
+      ∙ rw (
+        same 11 (burst .before 11 (omega arith)),
+        frame-service letter s blocks sized,
+        sent-twice letter s,
+        gathered 0 (omega arith),
+        gathered 1 (omega arith),
+        gathered 2 (omega arith),
+        gathered 3 (omega arith),
+      )
 
-  bits-small : Below 2 bits
-  unfolding bits
-  bits-small = let good = written-is letter s blocks out frame written in below-frame letter s blocks sized (good .0) (good .1)
-
-  same-size : length bits ≡ length mask
-  unfolding bits
-  same-size = length-frame letter s blocks sized ∙ sym places
-
-  sum-size : length (bits ⊕ mask) ≡ 320
-  sum-size = length-⊕ bits mask same-size ∙ same-size ∙ places
-
-  damage : damaged frame mask ≡ bytesOf (bits ⊕ mask)
-  unfolding damaged bits
-  damage =
+  pub burst-survives : (b : ℕ) → b < 4 → CodeWord (take 63 (block blocks b)) → Survives (block blocks b) (blockOf (damaged frame mask) b)
+  burst-survives b h word =
       let good = written-is letter s blocks out frame written in
-      ap (λ (l : List ℕ). bytesOf (bitsOf l ⊕ mask)) (good .2)
-      ∙ ap (λ (l : List ℕ). bytesOf (l ⊕ mask)) (frame-bits letter s blocks sized (good .0) (good .1))
-
-  damaged-bits : bitsOf (damaged frame mask) ≡ bits ⊕ mask
-  damaged-bits = ap bitsOf damage ∙ bits-back (bits ⊕ mask) 40 (below-⊕ bits mask) sum-size
-
-  damaged-size : length (damaged frame mask) ≡ 40
-  damaged-size = ap length damage ∙ length-bytesOf (bits ⊕ mask) ∙ ap (λ (n : ℕ). n / 8) sum-size
-
-  gathered : (b : ℕ) → b < 4 → deinterleave (bits ⊕ mask) b ≡ block blocks b ⊕ deinterleave mask b
-  unfolding bits
-  gathered b h = gathered-⊕ bits mask b same-size ∙ ap (λ (l : List ℕ). l ⊕ deinterleave mask b) (blocks-gathered letter s blocks sized b h)
-
-  pub damaged-block : (b : ℕ) → b < 4 → blockOf (damaged frame mask) b ≡ block blocks b ⊕ deinterleave mask b
-  damaged-block b h = block-there _ b h ∙ ap (λ (l : List ℕ). deinterleave l b) damaged-bits ∙ gathered b h
-
-  -- a bit that is not turned
-  untouched : (k : ℕ) → getD mask k 0 % 2 ≡ 0 → getD (bits ⊕ mask) k 0 ≡ getD bits k 0
-  untouched k h = let bit = bit-below bits k bits-small in getD-⊕ bits mask k same-size ∙ omega arith
-
-  module _ (burst : Burst mask) where
-    pub damaged-reads : readFrame letter (damaged frame mask) ≡ found (serviceIn letter s) (damagedBlocks blocks mask)
-    unfolding bits
-    damaged-reads =
-        reads letter (damaged frame mask) (bits ⊕ mask) damaged-size damaged-bits
-        (λ k h. untouched k (burst .before k (omega arith)) ∙ frame-sync letter s blocks sized k h)
-        ∙ rw (
-          untouched 11 (burst .before 11 (omega arith)),
-          frame-service letter s blocks sized,
-          sent-twice letter s,
-          gathered 0 (omega arith),
-          gathered 1 (omega arith),
-          gathered 2 (omega arith),
-          gathered 3 (omega arith),
-        )
-
-    pub burst-survives : (b : ℕ) → b < 4 → CodeWord (take 63 (block blocks b)) → Survives (block blocks b) (blockOf (damaged frame mask) b)
-    burst-survives b h word =
-        let good = written-is letter s blocks out frame written in
-        rw (damaged-block b h)
-        (survives (block blocks b) (deinterleave mask b) (sized b h) (length-gathered mask b) (good-blocks b blocks (good .1)) (burst-two mask burst b) word)
+      rw (damaged-block letter s blocks out frame sized written mask (burst .sized) b h)
+      (survives (block blocks b) (deinterleave mask b) (sized b h) (length-gathered mask b) (good-blocks b blocks (good .1)) (burst-two mask burst b) word)

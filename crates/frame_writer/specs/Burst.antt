@@ -1,6 +1,4 @@
 -- A run of wrong bits (document 01, "The block", last paragraph).
---     damaged bytes mask         bytes in which the bits are turned at which a mask has its ones
---     damagedBlocks blocks mask  four blocks, each with its part of a frame's mask turned
 --     Burst mask                 a mask of 320 bits whose ones lie in a run of at most four consecutive places among bits 13 to 320
 --     Survives sent received     a block and what is received of it: at most two of the 77 bits differ, it is not read as bad, the 44 protected
 --                                sound bits come back as sent, and the 14 unprotected bits as received
@@ -9,20 +7,9 @@ use mathlib.Core.Logic.{_≢_}
 use mathlib.Core.List.{List, [], _∷_}
 use Prim.Native.Nat.{ℕ, _+_, _%_, _≤_, _<_}
 use lib.ListN.{length, getD, take, drop}
-use Rattle.bits.specs.Bits.{bitsOf, bytesOf}
 use Rattle.bits.specs.Answer.{accepted}
-use Rattle.remainder.specs.Polynomial.{_⊕_}
 use Rattle.code.specs.Words.{distance}
 use Rattle.block.specs.Read.{bad, saidOf, handedOn}
-use Rattle.frame.specs.Frame.{block, deinterleave}
-
-unfoldable pub damaged : List ℕ → List ℕ → List ℕ
-damaged bytes mask = bytesOf (bitsOf bytes ⊕ mask)
-
-abbrev pub damagedBlocks : List (List ℕ) → List ℕ → List (List ℕ)
-damagedBlocks blocks mask =
-    (block blocks 0 ⊕ deinterleave mask 0) ∷ (block blocks 1 ⊕ deinterleave mask 1) ∷ (block blocks 2 ⊕ deinterleave mask 2)
-    ∷ (block blocks 3 ⊕ deinterleave mask 3) ∷ []
 
 pub record Burst (mask : List ℕ) : Type 0 where
   pub sized : length mask ≡ 320

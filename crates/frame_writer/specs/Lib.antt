@@ -1,3 +1,4 @@
 pub mod Write
+pub mod Damaged
 pub mod Burst
 pub mod Printed

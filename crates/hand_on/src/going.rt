@@ -49,6 +49,7 @@ fn counted(going: Going, taken: Taken) -> Totals {
     let blocks = taken.blocks;
     let counted = Counted {
         number: taken.number,
+        wrong: taken.wrong,
         blocks,
     };
     let added = totals.add(counted);

@@ -1,6 +1,6 @@
 -- The text of a listing.
---     document-case     document 01's reel of two: the definition gives its six lines, letter by letter
---     listing-fits      a listing of totals of 64 bits has at most 149 characters
+--     document-case     document 01's reel of two: the definition gives its seven lines, letter by letter
+--     listing-fits      a listing of totals of 64 bits has at most 175 characters
 --     listing-whole     so a buffer of so many bytes holds it from its first byte on: it is not refused, and stands there
 -- Assumes nothing.
 use mathlib.Core.Path.{_≡_, refl, ap, _∙_}
@@ -21,13 +21,13 @@ use Rattle.text.proofs.Entry.{entered-fits}
 use Rattle.reel.specs.Header.{headerAnswer}
 use Rattle.reel.specs.declared.HeaderRead.{HeaderRead}
 use Rattle.reel.specs.declared.HeaderRead.the-variants.{Reel, NoHeader}
-use Rattle.listing_text.specs.Listing.{line, ending, sixLines, listing}
+use Rattle.listing_text.specs.Listing.{line, ending, sevenLines, listing}
 use Rattle.tally.specs.declared.Totals.{Totals}
 
 pub document-case :
-    listing (accepted (2 ∷ 16 ∷ [])) (record { superframes = 2; lost = 1; clean = 512; mended = 0; bad = 0 })
-    ≡ letters "superframes 2\nlost 1\nclean 512\nmended 0\nbad 0\nend ok\n"
-unfolding listing sixLines line ending letters decimalIn
+    listing (accepted (2 ∷ 16 ∷ [])) (record { superframes = 2; lost = 1; wrong = 0; clean = 512; mended = 0; bad = 0 })
+    ≡ letters "superframes 2\nlost 1\nsync 0\nclean 512\nmended 0\nbad 0\nend ok\n"
+unfolding listing sevenLines line ending letters decimalIn
 document-case = refl
 
 length-line : (word : List ℕ) (n : ℕ) → n < 2 ^ 64 → length (line word n) ≤ length word + 22
@@ -44,15 +44,17 @@ length-ending promised read = either-way (eqb promised read) (λ e. rw e (omega 
 pub record Held (t : Totals) : Type 0 where
   pub superframes : t .superframes < 2 ^ 64
   pub lost : t .lost < 2 ^ 64
+  pub wrong : t .wrong < 2 ^ 64
   pub clean : t .clean < 2 ^ 64
   pub mended : t .mended < 2 ^ 64
   pub bad : t .bad < 2 ^ 64
 
-length-six : (promised : ℕ) (t : Totals) → Held t → length (sixLines promised t) ≤ 149
-unfolding sixLines letters
-length-six promised t h =
+length-seven : (promised : ℕ) (t : Totals) → Held t → length (sevenLines promised t) ≤ 175
+unfolding sevenLines letters
+length-seven promised t h =
     let a = length-line (letters "superframes") (t .superframes) (h .superframes) in
     let b = length-line (letters "lost") (t .lost) (h .lost) in
+    let w = length-line (letters "sync") (t .wrong) (h .wrong) in
     let c = length-line (letters "clean") (t .clean) (h .clean) in
     let d = length-line (letters "mended") (t .mended) (h .mended) in
     let e = length-line (letters "bad") (t .bad) (h .bad) in
@@ -60,18 +62,19 @@ length-six promised t h =
     rw (
       length-append (line (letters "superframes") (t .superframes)) _,
       length-append (line (letters "lost") (t .lost)) _,
+      length-append (line (letters "sync") (t .wrong)) _,
       length-append (line (letters "clean") (t .clean)) _,
       length-append (line (letters "mended") (t .mended)) _,
       length-append (line (letters "bad") (t .bad)) _,
-    ) (omega (arith, a, b, c, d, e, f))
+    ) (omega (arith, a, b, w, c, d, e, f))
 
-pub listing-fits : (h : HeaderRead) (t : Totals) → Held t → length (listing (headerAnswer h) t) ≤ 149
+pub listing-fits : (h : HeaderRead) (t : Totals) → Held t → length (listing (headerAnswer h) t) ≤ 175
 unfolding listing letters
-listing-fits (Reel count offset) t l = length-six count t l
+listing-fits (Reel count offset) t l = length-seven count t l
 listing-fits NoHeader t l = let r = length-line (letters "refused") 8 (omega arith) in omega (arith, r)
 
 pub listing-whole :
-    (out : List ℕ) (h : HeaderRead) (t : Totals) → 149 ≤ length out → Held t →
+    (out : List ℕ) (h : HeaderRead) (t : Totals) → 175 ≤ length out → Held t →
     let s = listing (headerAnswer h) t in
     enteredText (page out 0) s ≡ record { number = 0; page = page (s ++ drop (length s) out) (length s) }
 listing-whole out h t room held =

@@ -1,7 +1,7 @@
--- The text of a listing (document 01, "Reel file and listing").
+-- The text of a listing (document 01, "Reel file and listing"; document 02, P1).
 --     line word n               a word, a blank, a number in decimal, and the end of the line
 --     ending promised read      `end ok` where as many superframes were read as the header promises, else `end short`
---     sixLines promised t       the listing of a reel whose header is good
+--     sevenLines promised t     the listing of a reel whose header is good
 --     listing a t               the whole listing, by what reading the header answered: its number alone where that refused
 use Prim.Native.Nat.{ℕ}
 use mathlib.Core.Bool.{cond}
@@ -22,14 +22,15 @@ line word n = word ++ ((blank ∷ []) ++ (decimal n ++ (newline ∷ [])))
 unfoldable pub ending : ℕ → ℕ → List ℕ
 ending promised read = cond (eqb promised read) (letters "end ok") (letters "end short") ++ (newline ∷ [])
 
-unfoldable pub sixLines : ℕ → Totals → List ℕ
-sixLines promised t =
+unfoldable pub sevenLines : ℕ → Totals → List ℕ
+sevenLines promised t =
     line (letters "superframes") (t .superframes)
     ++ (line (letters "lost") (t .lost)
+    ++ (line (letters "sync") (t .wrong)
     ++ (line (letters "clean") (t .clean)
     ++ (line (letters "mended") (t .mended)
     ++ (line (letters "bad") (t .bad)
-    ++ ending promised (t .superframes)))))
+    ++ ending promised (t .superframes))))))
 
 unfoldable pub listing : Answer ℕ → Totals → List ℕ
-listing a t = cond (eqb (a .number) 0) (sixLines (getD (a .values) 0 0) t) (line (letters "refused") (a .number))
+listing a t = cond (eqb (a .number) 0) (sevenLines (getD (a .values) 0 0) t) (line (letters "refused") (a .number))

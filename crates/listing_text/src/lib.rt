@@ -3,7 +3,7 @@ ghost use mathlib.Core.Path.{_≡_};
 ghost use Rattle.text.specs.Page.{page, putText};
 ghost use Rattle.text.specs.Entry.{entered, enteredText};
 ghost use Rattle.reel.specs.Header.{headerAnswer};
-ghost use Rattle.listing_text.specs.Listing.{line, ending, sixLines, listing};
+ghost use Rattle.listing_text.specs.Listing.{line, ending, sevenLines, listing};
 use reel::HeaderRead;
 use tally::Totals;
 use text::Placed;
@@ -27,11 +27,12 @@ fn put_ending(out: &mut [u8], to: usize, promised: u32, read: u64) -> usize
 }
 
 fn put_totals(out: &mut [u8], to: usize, promised: u32, totals: Totals) -> usize
-    ensures { λ r. ⌜ page (now (out .exit)) r ≡ putText (page (now (out .entry)) to) (sixLines promised totals) ⌝ }
+    ensures { λ r. ⌜ page (now (out .exit)) r ≡ putText (page (now (out .entry)) to) (sevenLines promised totals) ⌝ }
 {
     let superframes = put_line(out, to, b"superframes", totals.superframes);
     let lost = put_line(out, superframes, b"lost", totals.lost);
-    let clean = put_line(out, lost, b"clean", totals.clean);
+    let wrong = put_line(out, lost, b"sync", totals.wrong);
+    let clean = put_line(out, wrong, b"clean", totals.clean);
     let mended = put_line(out, clean, b"mended", totals.mended);
     let bad = put_line(out, mended, b"bad", totals.bad);
     put_ending(out, bad, promised, totals.superframes)

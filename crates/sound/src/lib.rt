@@ -94,9 +94,10 @@ pub fn fill(bytes: &[u8], factors: &[u8; 32], samples: &mut [i16], marks: &mut [
     if !lengths_fit(bytes.len(), samples.len(), marks.len()) {
         return tape::refused(1);
     }
-    let number = tape::sync_number(bytes);
-    if number != 0 {
-        return tape::refused(number);
+    let syncs = tape::syncs(bytes);
+    if syncs.number != 0 {
+        return tape::refused(syncs.number);
     }
-    tape::gathered(fill_all(bytes, factors, samples, marks))
+    let read = fill_all(bytes, factors, samples, marks);
+    tape::gathered(syncs.wrong, read)
 }

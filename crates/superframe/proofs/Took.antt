@@ -14,7 +14,7 @@ use lib.IntN.{ℤ}
 use lib.ListN.{length}
 use Rattle.bits.proofs.Tests.{either-way}
 use borrow.Author.Tests.{eq-eqb}
-use Rattle.tape.specs.Tape.{synced, blocksOf, refusedCounts, countedWith, syncNumber}
+use Rattle.tape.specs.Tape.{synced, wrongBits, blocksOf, refusedCounts, countedWith, syncNumber}
 use Rattle.sound.specs.Sound.{samplesOf, marksOf, lengthsFit, fillNumber, Filled}
 use Rattle.sound.proofs.Samples.{fits}
 use Rattle.tape.specs.declared.blocks.Counted.{Counted}
@@ -44,12 +44,13 @@ module _ (sf factors : List ℕ) (samples : List ℤ) (marks : List ℕ) (r : Co
   unfolding countedWith refusedCounts
   number-lost t = ap (λ (r : Counted). r .number) (counted 3 (rw t))
 
-  pub good-fill : r .number ≡ 0 → (synced sf ≡ true) × (r .blocks ≡ blocksOf sf) × (samples' ≡ samplesOf sf factors) × (marks' ≡ marksOf sf factors)
+  pub good-fill : r .number ≡ 0 → (synced sf ≡ true) × (r .wrong ≡ wrongBits sf) × (r .blocks ≡ blocksOf sf) × (samples' ≡ samplesOf sf factors) × (marks' ≡ marksOf sf factors)
   unfolding countedWith
   good-fill z =
       let t : synced sf ≡ true = either-way (synced sf) (λ t. t) (λ t. absurd (omega (arith, z, number-lost t))) in
       let e : fillNumber sf samples marks ≡ 0 = numbered ∙ rw t in
-      (t, ap (λ (r : Counted). r .blocks) (counted 0 (rw t)), f .sound ∙ rw e, f .marked ∙ rw e)
+      let all = counted 0 (rw t) in
+      (t, ap (λ (r : Counted). r .wrong) all, ap (λ (r : Counted). r .blocks) all, f .sound ∙ rw e, f .marked ∙ rw e)
 
   pub lost-fill : (r .number ≡ 0 → ⊥) → (synced sf ≡ false) × (samples' ≡ samples) × (marks' ≡ marks)
   lost-fill z =
@@ -63,7 +64,7 @@ module _ (s : State) (sf : List ℕ) (samples : List ℤ) (marks : List ℕ) (r 
   unfolding takeAnswer
   refused-took n e z q x m = record { answer = rw (e, z) q; sound = rw (e, z) x; marked = rw (e, z) m }
 
-  pub answered-took : takeNumber s sf samples marks ≡ 0 → r ≡ besideWith s sf (blocksOf sf)
+  pub answered-took : takeNumber s sf samples marks ≡ 0 → r ≡ besideWith s sf (wrongBits sf) (blocksOf sf)
       → samples' ≡ samplesOf sf (s .next) → marks' ≡ marksOf sf (s .next) → Took s sf samples marks r samples' marks'
   unfolding takeAnswer
   answered-took e q x m = record { answer = rw e q; sound = rw e x; marked = rw e m }

@@ -1,7 +1,7 @@
 -- Taking a superframe (document 01, "Superframe", "Numbers given").
 --     takeNumber s sf samples marks     the number: 1 for a wrong length, then 2 for a state out of range, then 3 for a wrong sync, else 0
 --     takenFactors s sf     the factors move on by one, and those read hold for the superframe after the next
---     besideWith s sf b     the answer where nothing is refused, with the readings counted as b
+--     besideWith s sf w b   the answer where nothing is refused, with w wrong bits in its syncs and the readings counted as b
 --     noProgrammes          of a refused superframe: zeros
 --     refusedWith n s       number n, zeros, and a state
 --     stateUnder n s        the state that comes back with a refusal: with 3 that after one lost superframe, with 1 and 2 the one given
@@ -17,7 +17,7 @@ use lib.ListN.{length}
 use Rattle.bits.specs.Table.{zeros}
 use Rattle.service.specs.Service.{served}
 use Rattle.service.specs.declared.Served.{Served}
-use Rattle.tape.specs.Tape.{synced, blocksOf, noBlocks}
+use Rattle.tape.specs.Tape.{synced, wrongBits, blocksOf, noBlocks}
 use Rattle.sound.specs.Sound.{samplesOf, marksOf, lengthsFit}
 use Rattle.beside.specs.Beside.{programmesOf, sixAndSync}
 use Rattle.tape.specs.declared.blocks.Blocks.{Blocks}
@@ -36,11 +36,12 @@ takenFactors s sf = record { next = s .after; after = programmesOf sf .factors }
 abbrev pub servedIn : State → List ℕ → Served
 servedIn s sf = served (serviceOf s) (sixAndSync sf .six) (sixAndSync sf .sync)
 
-unfoldable pub besideWith : State → List ℕ → Blocks → Taken
-besideWith s sf b =
+unfoldable pub besideWith : State → List ℕ → ℕ → Blocks → Taken
+besideWith s sf w b =
     record {
       number = 0;
       next = joinedState (takenFactors s sf) (servedIn s sf .next);
+      wrong = w;
       blocks = b;
       programmes = programmesOf sf;
       six = sixAndSync sf .six;
@@ -58,6 +59,7 @@ refusedWith n s =
     record {
       number = n;
       next = s;
+      wrong = 0;
       blocks = noBlocks;
       programmes = noProgrammes;
       six = zeros 6;
@@ -71,7 +73,7 @@ abbrev pub stateUnder : ℕ → State → State
 stateUnder n s = cond (eqb n 3) (lostState s) s
 
 unfoldable pub takeAnswer : ℕ → State → List ℕ → Taken
-takeAnswer n s sf = cond (eqb n 0) (besideWith s sf (blocksOf sf)) (refusedWith n (stateUnder n s))
+takeAnswer n s sf = cond (eqb n 0) (besideWith s sf (wrongBits sf) (blocksOf sf)) (refusedWith n (stateUnder n s))
 
 pub record Took (s : State) (sf : List ℕ) (samples : List ℤ) (marks : List ℕ) (r : Taken) (samples' : List ℤ) (marks' : List ℕ) : Type 0 where
   pub answer : r ≡ takeAnswer (takeNumber s sf samples marks) s sf

@@ -12,6 +12,8 @@ pub struct Taken {
     // 0; 1: a wrong length; 2: a state out of range; 3: a wrong sync
     pub number: u8,
     pub next: State,
+    // how many bits of its 128 syncs are wrong
+    pub wrong: u16,
     pub blocks: Blocks,
     pub programmes: Programmes,
     // the six service bytes
@@ -39,6 +41,7 @@ fn refused(number: u8, next: State) -> Taken
     Taken {
         number,
         next,
+        wrong: 0,
         blocks,
         programmes,
         six: [0u8; 6],
@@ -49,10 +52,10 @@ fn refused(number: u8, next: State) -> Taken
     }
 }
 
-// All that is answered beside the samples and marks, with the readings already counted.
-fn answered(state: State, bytes: &[u8], blocks: Blocks) -> Taken
+// All that is answered beside the samples and marks, with wrong sync bits and readings already counted.
+fn answered(state: State, bytes: &[u8], wrong: u16, blocks: Blocks) -> Taken
     requires { ⌜ length (now bytes) ≡ 5120 ⌝ }
-    ensures { λ r. ⌜ r ≡ besideWith state (now (bytes .entry)) blocks ⌝ }
+    ensures { λ r. ⌜ r ≡ besideWith state (now (bytes .entry)) wrong blocks ⌝ }
 {
     let programmes = beside::programmes_of(bytes);
     let sent = beside::six_and_sync(bytes);
@@ -67,6 +70,7 @@ fn answered(state: State, bytes: &[u8], blocks: Blocks) -> Taken
     Taken {
         number: 0,
         next,
+        wrong,
         blocks,
         programmes,
         six,
@@ -96,6 +100,6 @@ impl State {
             return refused(3, next);
         }
         let blocks = counted.blocks;
-        answered(self, bytes, blocks)
+        answered(self, bytes, counted.wrong, blocks)
     }
 }

@@ -1,9 +1,10 @@
 -- What the totals of a listing are, in document 01's words: "superframes counts the whole ones read, lost ones among them".
 --     isLost sf             1 for a superframe with a wrong sync, else 0
+--     syncIn sf             the wrong bits of its 128 syncs, added; none of a lost one, not even those of its good frames
 --     markOnTape sf t       the mark of block t of its 512, in tape order
 --     blocksWith m sf       how many of its 512 blocks have mark m (0 clean, 1 mended, 2 bad); none of a lost one
 --     total f sfs           the sum of a number over some superframes
---     counted sfs           all five totals of some superframes
+--     counted sfs           all six totals of some superframes
 --     Superframes sfs       each is a whole superframe, by its length
 use Prim.Native.Nat.{ℕ, _+_}
 use mathlib.Core.Path.{_≡_}
@@ -12,11 +13,14 @@ use mathlib.Core.List.{List, [], _∷_}
 use lib.Dec.{eqb}
 use lib.ListN.{length, getD}
 use Rattle.block.specs.Read.{bad}
-use Rattle.tape.specs.Tape.{synced, readings, markOf, howMany}
+use Rattle.tape.specs.Tape.{synced, wrongBits, readings, markOf, howMany}
 use Rattle.tally.specs.declared.Totals.{Totals}
 
 unfoldable pub isLost : List ℕ → ℕ
 isLost sf = cond (synced sf) 0 1
+
+unfoldable pub syncIn : List ℕ → ℕ
+syncIn sf = cond (synced sf) (wrongBits sf) 0
 
 unfoldable pub markOnTape : List ℕ → ℕ → ℕ
 markOnTape sf t = markOf (getD (readings sf) t bad)
@@ -33,6 +37,7 @@ counted sfs =
     record {
       superframes = length sfs;
       lost = total isLost sfs;
+      wrong = total syncIn sfs;
       clean = total (blocksWith 0) sfs;
       mended = total (blocksWith 1) sfs;
       bad = total (blocksWith 2) sfs;

@@ -25,14 +25,15 @@ sumOf [] = 0
 sumOf (n ∷ l) = n + sumOf l
 
 unfoldable pub noTotals : Totals
-noTotals = record { superframes = 0; lost = 0; clean = 0; mended = 0; bad = 0 }
+noTotals = record { superframes = 0; lost = 0; wrong = 0; clean = 0; mended = 0; bad = 0 }
 
--- a lost superframe has no block that counts
+-- a lost superframe has no wrong bit and no block that counts
 unfoldable pub withCounted : Totals → Counted → Totals
 withCounted t c =
     record {
       superframes = grown (t .superframes) 1;
       lost = grown (t .lost) (cond (eqb (c .number) 3) 1 0);
+      wrong = grown (t .wrong) (c .wrong);
       clean = grown (t .clean) (sumOf (c .blocks .clean));
       mended = grown (t .mended) (sumOf (c .blocks .mended));
       bad = grown (t .bad) (sumOf (c .blocks .bad));

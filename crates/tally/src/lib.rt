@@ -7,6 +7,8 @@ pub struct Totals {
     // whole superframes read, lost ones among them
     pub superframes: u64,
     pub lost: u64,
+    // wrong bits in the syncs of the superframes that were not lost
+    pub wrong: u64,
     // blocks of the superframes that were not lost
     pub clean: u64,
     pub mended: u64,
@@ -60,6 +62,7 @@ impl Totals {
         Totals {
             superframes: 0,
             lost: 0,
+            wrong: 0,
             clean: 0,
             mended: 0,
             bad: 0,
@@ -82,6 +85,7 @@ impl Totals {
         let next = Totals {
             superframes: grow(self.superframes, 1),
             lost: grow(self.lost, lost),
+            wrong: grow(self.wrong, counted.wrong as u64),
             clean: grow(self.clean, sum(clean)),
             mended: grow(self.mended, sum(mended)),
             bad: grow(self.bad, sum(bad)),

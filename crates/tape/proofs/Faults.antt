@@ -49,6 +49,6 @@ module _ (sf : List ℕ) where
   unfolding countsOf
   counts-order = subst (Ordered (length sf ≢ 5120) ⊥ (WrongSync sf)) (sym (counted-number (syncNumber sf))) sync-order
 
-  pub refused-empty : (countsOf sf .number ≢ 0) → countsOf sf .blocks ≡ noBlocks
+  pub refused-empty : (countsOf sf .number ≢ 0) → (countsOf sf .wrong ≡ 0) × (countsOf sf .blocks ≡ noBlocks)
   unfolding countsOf countedWith refusedCounts
-  refused-empty h = either-way (eqb (syncNumber sf) 0) (λ t. absurd (h (rw t))) (λ t. rw t)
+  refused-empty h = either-way (eqb (syncNumber sf) 0) (λ t. absurd (h (rw t))) (λ t. (rw t refl, rw t refl))

@@ -3,19 +3,28 @@
 --     channelOf q side              the channel of programme q, side 1 the left and 2 the right: "channels of programmes 1 to 16 in order, left first"
 --     Carries f b q frame place     "Block b of A carries stereo programmes 2b-1 and 2b; block b of B carries 2b+7 and 2b+8": block b of main frame `frame` of
 --                                   the 128 carries programme q in frame number f of the 64, as the first (place 1) or the second (place 2) of its two
+--     wrongBit sf f k               bit k of the sync of main frame f is not that of its letter's word; f and k count from 0
 --     IsMended r                    a reading that is mended, with whatever number of places
 --     Marked r m                    "0 clean, 1 mended, 2 block bad": mark m says so of reading r, and of no other
 use Prim.Native.Nat.{ℕ, _+_, _-_, _*_}
 use mathlib.Core.Path.{_≡_}
+use mathlib.Core.Bool.{Bool, true, false, cond}
 use mathlib.Core.List.{List}
+use lib.Dec.{eqb}
 use lib.ListN.{getD}
+use Rattle.bits.specs.Bits.{bitAt}
 use Rattle.block.specs.Read.{Said, clean, mended, bad}
+use Rattle.frame.specs.Frame.{syncWord}
+use Rattle.tape.specs.Tape.{frameAt, letterOf}
 
 abbrev pub entry : {A : Type 0} → List A → ℕ → A → A
 entry l n d = getD l (n - 1) d
 
 abbrev pub channelOf : ℕ → ℕ → ℕ
 channelOf q side = 2 * (q - 1) + side
+
+unfoldable pub wrongBit : List ℕ → ℕ → ℕ → Bool
+wrongBit sf f k = cond (eqb (bitAt (frameAt sf f) k) (getD (syncWord (letterOf f)) k 0)) false true
 
 pub data Carries (f b : ℕ) : ℕ → ℕ → ℕ → Type 0 where
   a-first : Carries f b (2 * b - 1) f 1

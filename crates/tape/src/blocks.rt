@@ -22,9 +22,10 @@ pub struct Quad {
     pub codes: [i16; 4],
 }
 
-// Number 0 and the readings counted; or number 1, 2 or 3 and zeros.
+// Number 0, how many bits of the 128 syncs are wrong, and the readings counted; or number 1, 2 or 3 and zeros.
 pub struct Counted {
     pub number: u8,
+    pub wrong: u16,
     pub blocks: Blocks,
 }
 
@@ -137,9 +138,9 @@ fn tallies(marks: [u8; 512], mark: u8) -> [u8; 8]
     out
 }
 
-// The counts of 512 marks, frame number by frame number.
-pub fn gathered(marks: [u8; 512]) -> Counted
-    ensures { λ r. ⌜ r ≡ gatheredFrom marks ⌝ }
+// The counts of 512 marks, frame number by frame number, beside the wrong bits of syncs.
+pub fn gathered(wrong: u16, marks: [u8; 512]) -> Counted
+    ensures { λ r. ⌜ r ≡ gatheredFrom wrong marks ⌝ }
 {
     if !bits::all_below(&marks, 3) {
         return refused(2);
@@ -149,7 +150,11 @@ pub fn gathered(marks: [u8; 512]) -> Counted
         mended: tallies(marks, 1),
         bad: tallies(marks, 2),
     };
-    Counted { number: 0, blocks }
+    Counted {
+        number: 0,
+        wrong,
+        blocks,
+    }
 }
 
 // A refusal has a number: 0 is none.
@@ -162,18 +167,26 @@ pub fn refused(number: u8) -> Counted
         bad: [0u8; 8],
     };
     if number == 0 {
-        return Counted { number: 2, blocks };
+        return Counted {
+            number: 2,
+            wrong: 0,
+            blocks,
+        };
     }
-    Counted { number, blocks }
+    Counted {
+        number,
+        wrong: 0,
+        blocks,
+    }
 }
 
 // The readings of a superframe, counted without a state.
 pub fn counts(bytes: &[u8]) -> Counted
     ensures { λ r. ⌜ r ≡ countsOf (now (bytes .entry)) ⌝ }
 {
-    let number = frames::sync_number(bytes);
-    if number != 0 {
-        return refused(number);
+    let syncs = frames::syncs(bytes);
+    if syncs.number != 0 {
+        return refused(syncs.number);
     }
-    gathered(all_marks(bytes))
+    gathered(syncs.wrong, all_marks(bytes))
 }

@@ -9,4 +9,5 @@ pub use blocks::counts;
 pub use blocks::gathered;
 pub use blocks::read_at;
 pub use blocks::refused;
-pub use frames::sync_number;
+pub use frames::SyncsRead;
+pub use frames::syncs;

@@ -15,7 +15,7 @@ use Rattle.superframe.specs.Take.{refusedWith}
 use Rattle.superframe.specs.declared.state.State.{State}
 use Rattle.beside_text.specs.Lines.{nextHex, serviceLine, labelsLine, pairText}
 use Rattle.frames_text.specs.Frames.{marksLine, samplesLine}
-use Rattle.transcript_text.specs.Superframe.{headLine, blocksLine, superframeText}
+use Rattle.transcript_text.specs.Superframe.{headLine, syncLine, blocksLine, superframeText}
 
 head-case : headLine 2 0 ≡ letters "superframe 2 number 0\n"
 unfolding headLine letters decimalIn
@@ -37,6 +37,10 @@ factors-case = refl
 words-case : nextHex (digits 256 3 3993967) ++ nextHex (digits 256 3 364506) ≡ letters " 3cf16f 058fda"
 unfolding letters spelled digits
 words-case = refl
+
+sync-case : syncLine 3 ≡ letters "sync 3\n"
+unfolding syncLine letters decimalIn
+sync-case = refl
 
 blocks-case : blocksLine (record { clean = 476 ∷ []; mended = 25 ∷ []; bad = 11 ∷ [] }) ≡ letters "blocks 476 25 11\n"
 unfolding blocksLine letters decimalIn sumOf

@@ -1,6 +1,6 @@
 -- How long the lines of a superframe are.
 --     Held t                what the machine's types say of an answer: small numbers are bytes, and there are six service bytes and three times eight counts
---     superframe-fits       the lines have at most 18,537 characters
+--     superframe-fits       the lines have at most 18,548 characters
 --     superframe-whole      so a buffer of 20,480 bytes holds them from its first byte on: they are not refused, and stand there
 -- Assumes nothing.
 use mathlib.Core.Path.{_≡_, ap, _∙_}
@@ -26,13 +26,14 @@ use Rattle.beside_text.proofs.Fits.{HeldBeside, beside-fits}
 use Rattle.frames_text.proofs.Fits.{Sixteen, frames-fit}
 use Rattle.tape.specs.declared.blocks.Blocks.{Blocks}
 use Rattle.superframe.specs.declared.taking.Taken.{Taken}
-use Rattle.transcript_text.specs.Superframe.{headLine, blocksLine, superframeText, enteredSuperframe}
+use Rattle.transcript_text.specs.Superframe.{headLine, syncLine, blocksLine, superframeText, enteredSuperframe}
 
 abbrev pub EightBytes : List ℕ → Type 0
 EightBytes counts = (length counts ≡ 8) × Below 256 counts
 
 pub record Held (t : Taken) : Type 0 where
   pub number : t .number < 256
+  pub wrong : t .wrong < 65536
   pub beside : HeldBeside t
   pub clean : EightBytes (t .blocks .clean)
   pub mended : EightBytes (t .blocks .mended)
@@ -44,6 +45,10 @@ length-head k number h n =
     let d = decimal-short 9 k (omega (arith, h)) in
     let e = decimal-short 2 number (omega (arith, n)) in
     rw (length-append (decimal k) (letters " number" ++ (next number ++ (10 ∷ []))), length-append (decimal number) (10 ∷ [])) (omega (arith, d, e))
+
+length-wrong : (w : ℕ) → w < 65536 → length (syncLine w) ≤ 11
+unfolding syncLine letters
+length-wrong w h = let d = decimal-short 4 w (omega (arith, h)) in rw (length-append (decimal w) (10 ∷ [])) (omega (arith, d))
 
 sum-most : (l : List ℕ) → Below 256 l → sumOf l ≤ 255 * length l
 unfolding sumOf Below
@@ -66,17 +71,18 @@ length-blocks b clean mended bad =
     ) (omega (arith, c, m, w))
 
 pub superframe-fits :
-    (k : ℕ) (t : Taken) (samples : List ℤ) (marks : List ℕ) → k < 2 ^ 32 → Held t → Sixteen samples → length (superframeText k t samples marks) ≤ 18537
+    (k : ℕ) (t : Taken) (samples : List ℤ) (marks : List ℕ) → k < 2 ^ 32 → Held t → Sixteen samples → length (superframeText k t samples marks) ≤ 18548
 unfolding superframeText
 superframe-fits k t samples marks h held small =
     let a = length-head k (t .number) h (held .number) in
     let b = beside-fits t (held .beside) in
+    let w = length-wrong (t .wrong) (held .wrong) in
     let c = length-blocks (t .blocks) (held .clean) (held .mended) (held .bad) in
     let d = frames-fit samples marks small in
     either-way (eqb (t .number) 0)
     (λ e.
-    rw (e, length-append (headLine k (t .number)) _, length-append (besideText t) _, length-append (blocksLine (t .blocks)) _)
-    (omega (arith, a, b, c, d)))
+    rw (e, length-append (headLine k (t .number)) _, length-append (besideText t) _, length-append (syncLine (t .wrong)) _, length-append (blocksLine (t .blocks)) _)
+    (omega (arith, a, b, w, c, d)))
     (λ e. rw (e, length-append (headLine k (t .number)) []) (omega (arith, a)))
 
 pub superframe-whole :

@@ -3,7 +3,7 @@ ghost use mathlib.Core.Path.{_≡_};
 ghost use lib.ListN.{length};
 ghost use Rattle.text.specs.Page.{page, putText};
 ghost use Rattle.text.specs.Entry.{entered};
-ghost use Rattle.transcript_text.specs.Superframe.{headLine, blocksLine, superframeText, enteredSuperframe};
+ghost use Rattle.transcript_text.specs.Superframe.{headLine, syncLine, blocksLine, superframeText, enteredSuperframe};
 use superframe::Taken;
 use tape::Blocks;
 use text::Placed;
@@ -31,6 +31,15 @@ fn put_blocks(out: &mut [u8], to: usize, blocks: Blocks) -> usize
     text::put(out, end, b'\n')
 }
 
+// How many bits of the syncs are wrong.
+fn put_wrong(out: &mut [u8], to: usize, wrong: u16) -> usize
+    ensures { λ r. ⌜ page (now (out .exit)) r ≡ putText (page (now (out .entry)) to) (syncLine wrong) ⌝ }
+{
+    let word = text::put_all(out, to, b"sync");
+    let end = text::put_next(out, word, wrong as u64);
+    text::put(out, end, b'\n')
+}
+
 fn put_lines(
     out: &mut [u8],
     to: usize,
@@ -48,7 +57,8 @@ fn put_lines(
     }
     let blocks = taken.blocks;
     let beside = beside_text::put_beside(out, head, taken);
-    let counted = put_blocks(out, beside, blocks);
+    let wrong = put_wrong(out, beside, taken.wrong);
+    let counted = put_blocks(out, wrong, blocks);
     frames_text::put_frames(out, counted, samples, marks)
 }
 

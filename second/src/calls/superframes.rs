@@ -11,8 +11,8 @@ use crate::superframe::{self, State, FRAMES, MISSING};
 use crate::taking::{Lengths, MOST_BYTES, MOST_LENT};
 use crate::text;
 
-/// In the second byte of a main frame.
-const LAST_SYNC_BIT: u8 = 32;
+/// In the second byte of a main frame: too many wrong bits for a sync.
+const LAST_THREE_SYNC_BITS: u8 = 0xe0;
 
 /// One bit away from both syncs.
 const NEITHER: &str = "0000010111011111";
@@ -101,7 +101,7 @@ fn refusals_in_order() -> Vec<Asked> {
     let mut all = Vec::new();
     for lengths in lengths {
         for field in 0..=FIELDS {
-            for turned in [0, LAST_SYNC_BIT] {
+            for turned in [0, LAST_THREE_SYNC_BITS] {
                 let mut asked = Asked::good(&[1, field]);
                 asked.lengths = lengths;
                 spoil(&mut asked.state, field, CHANNELS - 1, MISSING + 1);
@@ -140,18 +140,42 @@ fn length_edges() -> Vec<Asked> {
     all
 }
 
-/// One wrong bit in the sync of each main frame, every bit in its turn; then bits behind the sync, of which only the service bit
-/// of A says something.
+/// One wrong bit in the sync of each main frame, every bit in its turn; two and three, which is one too many, in the sync of each; every number
+/// of them up to eight; then bits behind the sync, of which only the service bit of A says something.
 fn every_sync() -> Vec<Asked> {
-    let single = (0..2 * FRAMES).map(|n| (n, n % SYNC));
-    let behind = [0, 63, 64, 127].into_iter().map(|n| (n, frame::SERVICE));
-    let asked = single.chain(behind).map(|(n, bit)| {
+    let all = 0..2 * FRAMES;
+    let single = all
+        .clone()
+        .map(|n| (n, n % SYNC / 8, 128 >> (n % SYNC % 8)));
+    let two = all.clone().map(|n| (n, 0, 0b11 << (n % 7)));
+    let three = all.map(|n| {
+        (
+            n,
+            n % 2,
+            if n % 2 == 0 {
+                0b111 << (n % 6)
+            } else {
+                LAST_THREE_SYNC_BITS
+            },
+        )
+    });
+    let many = (0..=8).flat_map(|k| [(0, 0, many_ones(k)), (127, 0, many_ones(k))]);
+    let behind = [0, 63, 64, 127]
+        .into_iter()
+        .map(|n| (n, 1, 128 >> (frame::SERVICE % 8)));
+    let asked = single.chain(two).chain(three).chain(many).chain(behind);
+    let asked = asked.map(|(n, byte, turned)| {
         let mut asked = Asked::good(&[3]);
-        asked.recipe.place = (frame::BYTES * n + bit / 8) as u16;
-        asked.recipe.turned = 128 >> (bit % 8);
+        asked.recipe.place = (frame::BYTES * n + byte) as u16;
+        asked.recipe.turned = turned;
         asked
     });
     asked.collect()
+}
+
+/// A byte with so many bits 1, at most eight.
+fn many_ones(count: usize) -> u8 {
+    ((1u16 << count) - 1) as u8
 }
 
 /// Every position and the stages that matter, with each sync; where the separator is searched for, it comes.

@@ -62,11 +62,16 @@ fn answers() {
         ),
         (
             format!("fread a e25{}", zeros(77)),
-            format!("0 1 {z77} {z77} {z77} {z77}"),
+            format!("0 0 1 {z77} {z77} {z77} {z77}"),
         ),
         (
+            format!("fread a 225{}", zeros(77)),
+            format!("0 2 1 {z77} {z77} {z77} {z77}"),
+        ),
+        (format!("fread a 025{}", zeros(77)), "3".to_string()),
+        (
             format!("fread b 1db{}", zeros(77)),
-            format!("0 0 {z77} {z77} {z77} {z77}"),
+            format!("0 0 0 {z77} {z77} {z77} {z77}"),
         ),
         (format!("fread b e25{}", zeros(77)), "3".to_string()),
         ("fread a e25000".to_string(), "1".to_string()),

@@ -48,9 +48,9 @@ fn unknown_words_get_a_message() {
 
 #[test]
 fn from_made_to_listed() {
-    let (status, reel, said) = run("make 1 3 sync=1@2", b"");
+    let (status, reel, said) = run("make 1 3 sync=3@2", b"");
     assert_eq!((status, reel.len(), said), (Some(0), 16 + 3 * 5120, false));
-    let listing = b"superframes 3\nlost 1\nclean 1024\nmended 0\nbad 0\nend ok\n".to_vec();
+    let listing = b"superframes 3\nlost 1\nsync 0\nclean 1024\nmended 0\nbad 0\nend ok\n".to_vec();
     assert_eq!(run("listing", &reel), (Some(0), listing, false));
     let (status, transcript, _) = run("transcript", &reel);
     assert_eq!(status, Some(0));

@@ -54,10 +54,10 @@ fn hand_on(name: &str, reel: &[u8]) -> Handed {
     Handed { end, files }
 }
 
-/// A superframe with a wrong bit in its last sync.
+/// A superframe with three wrong bits in its last sync.
 fn lost() -> Vec<u8> {
     let mut bytes = Superframe::zero().bytes();
-    bytes[127 * 40] ^= 1;
+    bytes[127 * 40] ^= 7;
     bytes
 }
 
@@ -86,14 +86,14 @@ fn files_of_the_folder() {
 /// The reel that samples/ has, with the line that the restorers were shown.
 #[test]
 fn damaged_sample() {
-    let reel = make("1989 6 rate=100@2-3 sync=1@4 burst=5@5");
+    let reel = make("1989 6 rate=100@2-3 sync=3@4 burst=5@5");
     let handed = hand_on("damaged", &reel);
     assert_eq!(handed.end, End::Ok);
     assert_eq!(
         handed.text("05.labels.txt"),
         "0.00000000\t0.01200000\tbad 22, no factor 192, lost 64\n"
     );
-    let counts = "superframes 6\nlost 1\nclean 1850\nmended 586\nbad 124\nend ok\n";
+    let counts = "superframes 6\nlost 1\nsync 0\nclean 1850\nmended 586\nbad 124\nend ok\n";
     assert_eq!(handed.text("listing.txt"), counts);
     assert_eq!(handed.text("names.txt"), "");
 }
@@ -101,7 +101,7 @@ fn damaged_sample() {
 /// Every sample and every mark as the transcript has it, and the words; zeros and 255 where a superframe is lost.
 #[test]
 fn same_as_the_transcript() {
-    let reel = make("7 12 rate=150@3-9 sync=1@5 majority=3%50");
+    let reel = make("7 12 rate=150@3-9 sync=3@5 majority=3%50");
     let handed = hand_on("transcript", &reel);
     let mut sound = vec![wav::header(16, 12 * 64); 16];
     let mut marks = vec![wav::header(8, 12 * 64); 16];
@@ -219,7 +219,7 @@ fn types_and_labels_of_a_reel() {
 
 #[test]
 fn short_reel() {
-    let whole = make("3 4 sync=1@2");
+    let whole = make("3 4 sync=3@2");
     for (length, superframes) in [
         (16, 0),
         (16 + 5119, 0),
@@ -250,7 +250,7 @@ fn no_superframes() {
     for name in ["01.labels.txt", "names.txt", "words.txt"] {
         assert_eq!(handed.text(name), "");
     }
-    let counts = "superframes 0\nlost 0\nclean 0\nmended 0\nbad 0\nend ok\n";
+    let counts = "superframes 0\nlost 0\nsync 0\nclean 0\nmended 0\nbad 0\nend ok\n";
     assert_eq!(handed.text("listing.txt"), counts);
 }
 

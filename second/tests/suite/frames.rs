@@ -3,7 +3,7 @@
 use crate::hand::block_of;
 use second::bits;
 use second::block::{self, Block};
-use second::frame::{self, place, Letter};
+use second::frame::{self, place, Frame, Letter};
 use second::numbers::Refusal;
 use second::random::Random;
 use second::text;
@@ -67,31 +67,50 @@ fn written_is_read_back() {
     for service in [0, 1] {
         let blocks = random_blocks(&mut random);
         let a = written(Letter::A, service, &blocks);
-        assert_eq!(frame::read(Letter::A, &a), Ok((service, blocks)));
+        let whole = |service| {
+            Ok(Frame {
+                wrong: 0,
+                service,
+                blocks,
+            })
+        };
+        assert_eq!(frame::read(Letter::A, &a), whole(service));
         assert_eq!(frame::read(Letter::B, &a), Err(Refusal::Sync));
         let mut b = written(Letter::B, service, &blocks);
-        assert_eq!(frame::read(Letter::B, &b), Ok((0, blocks)));
+        assert_eq!(frame::read(Letter::B, &b), whole(0));
         b[1] |= 0x10;
         assert_eq!(
             frame::read(Letter::B, &b),
-            Ok((0, blocks)),
+            whole(0),
             "bit 12 of B is ignored"
         );
     }
 }
 
+/// All 2,048 ways to turn bits of a sync: up to two are taken and told, and nothing is put right.
 #[test]
-fn every_sync_bit_counts() {
-    for letter in [Letter::A, Letter::B] {
-        let good = written(letter, 0, &ZERO);
-        for bit in 0..11 {
-            let mut bytes = good;
-            bytes[bit / 8] ^= 0x80 >> (bit % 8);
+fn sync_with_wrong_bits() {
+    let mut random = Random::stream(&[7]);
+    for (letter, service) in [(Letter::A, 1), (Letter::B, 0)] {
+        let blocks = random_blocks(&mut random);
+        let good = bits::of_bytes(&written(letter, service, &blocks));
+        for turned in 0..1u32 << 11 {
+            let mut bits = good.clone();
+            for (n, bit) in bits[..11].iter_mut().enumerate() {
+                *bit ^= (turned >> n & 1) as u8;
+            }
+            let expected = match turned.count_ones() {
+                wrong @ 0..=2 => Ok(Frame {
+                    wrong: wrong as u8,
+                    service,
+                    blocks,
+                }),
+                _ => Err(Refusal::Sync),
+            };
             assert_eq!(
-                frame::read(letter, &bytes),
-                Err(Refusal::Sync),
-                "bit {}",
-                bit + 1
+                frame::read(letter, &bits::to_bytes(&bits)),
+                expected,
+                "{turned:011b}"
             );
         }
     }
@@ -140,8 +159,14 @@ fn burst_of_four() {
             for bit in &mut bits[start - 1..start - 1 + length] {
                 *bit ^= 1;
             }
-            let (service, received) = frame::read(Letter::A, &bits::to_bytes(&bits)).unwrap();
-            assert_eq!(service, 1);
+            let Frame {
+                wrong: 0,
+                service: 1,
+                blocks: received,
+            } = frame::read(Letter::A, &bits::to_bytes(&bits)).unwrap()
+            else {
+                panic!("sync or service bit from bit {start}")
+            };
             let mut wrong = 0;
             for (received, sent) in received.iter().zip(&sent) {
                 let here = bits::distance(received, sent);

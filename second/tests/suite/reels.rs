@@ -9,22 +9,58 @@ use std::io::{self, Read};
 /// The listing of a reel whose superframes are all clean.
 fn all_clean(superframes: u64, lost: u64, end: &str) -> String {
     let clean = 512 * (superframes - lost);
-    format!("superframes {superframes}\nlost {lost}\nclean {clean}\nmended 0\nbad 0\nend {end}\n")
+    format!("superframes {superframes}\nlost {lost}\nsync 0\nclean {clean}\nmended 0\nbad 0\nend {end}\n")
 }
 
-/// Document 01's own case, with a wrong bit at every place of some syncs of the second.
+/// Document 01's own case as document 02 amends it: three wrong bits in a sync of the second, from every place of some of them on.
 #[test]
 fn listing_of_document_01() {
-    let expected = "superframes 2\nlost 1\nclean 512\nmended 0\nbad 0\nend ok\n";
+    let expected = "superframes 2\nlost 1\nsync 0\nclean 512\nmended 0\nbad 0\nend ok\n";
     let good = Superframe::zero().bytes();
-    for bit in 0..11 {
+    for first in 0..9 {
         for frame in [0, 63, 64, 127] {
-            let mut wrong = good.clone();
-            wrong[40 * frame + bit / 8] ^= 0x80 >> (bit % 8);
+            let wrong = with_turned(&good, (first..first + 3).map(|bit| (frame, bit)));
             assert_eq!(listing(&reel(&[good.clone(), wrong])), expected);
         }
     }
-    assert_eq!(listing(&make("1 2 sync=1@2")), expected);
+    assert_eq!(listing(&make("1 2 sync=3@2")), expected);
+}
+
+/// Bits of syncs turned, each by its main frame and its place, both from 0.
+fn with_turned(bytes: &[u8], bits: impl Iterator<Item = (usize, usize)>) -> Vec<u8> {
+    let mut bytes = bytes.to_vec();
+    for (frame, bit) in bits {
+        bytes[40 * frame + bit / 8] ^= 0x80 >> (bit % 8);
+    }
+    bytes
+}
+
+/// Wrong bits of syncs, up to two in each, are added over the superframes that are not lost.
+#[test]
+fn wrong_sync_bits_are_counted() {
+    let good = Superframe::zero().bytes();
+    let sum = |bytes: &[u8]| {
+        let text = listing(&reel(&[good.clone(), bytes.to_vec(), good.clone()]));
+        let numbers = text.lines().map(|line| line.split(' ').nth(1).unwrap());
+        numbers.map(str::to_string).collect::<Vec<_>>()[1..3].join(" ")
+    };
+    for bit in 0..11 {
+        for frame in [0, 63, 64, 127] {
+            assert_eq!(sum(&with_turned(&good, [(frame, bit)].into_iter())), "0 1");
+            let other = (bit + 1 + frame % 10) % 11;
+            let two = [(frame, bit), (frame, other)];
+            assert_eq!(sum(&with_turned(&good, two.into_iter())), "0 2");
+        }
+    }
+    let all = (0..128).flat_map(|frame| [(frame, frame % 11), (frame, (frame + 4) % 11)]);
+    let most = with_turned(&good, all);
+    assert_eq!(sum(&most), "0 256");
+    // One bit more, and none of them counts.
+    assert_eq!(sum(&with_turned(&most, [(100, 0)].into_iter())), "1 0");
+    assert_eq!(
+        sum(&with_turned(&most, [(127, 0), (127, 2)].into_iter())),
+        "1 0"
+    );
 }
 
 #[test]
@@ -204,11 +240,15 @@ fn transcript_by_hand() {
     let mut first = scaled("00001001110011");
     first.six = [1, 2, 3, 4, 5, 0xfe];
     let mut lost = Superframe::zero().bytes();
-    lost[5080] ^= 1;
+    lost[5080] ^= 7;
     let mut third = scaled("11111111111111").code(0, 2, -1).code(63, 31, 8191);
     third.blocks[1][0][7] ^= 1;
     third.sync = NEITHER;
-    let reel = reel(&[first.bytes(), lost, third.bytes()]);
+    let mut third = third.bytes();
+    // Two bits of the first sync of A, and one of the last of B.
+    third[0] ^= 0x81;
+    third[5081] ^= 0x20;
+    let reel = reel(&[first.bytes(), lost, third]);
 
     let zeros = |count| vec!["0"; count].join(" ");
     let mut expected = vec!["superframe 1 number 0".to_string()];
@@ -218,6 +258,7 @@ fn transcript_by_hand() {
     expected.push("labels none".to_string());
     expected.push(factors("02"));
     expected.push(words.clone());
+    expected.push("sync 0".to_string());
     expected.push("blocks 512 0 0".to_string());
     for frame in 1..=64 {
         expected.push(format!("marks {frame} {}", "3".repeat(32)));
@@ -229,6 +270,7 @@ fn transcript_by_hand() {
     expected.push("labels none".to_string());
     expected.push(factors("--"));
     expected.push(words);
+    expected.push("sync 3".to_string());
     expected.push("blocks 511 1 0".to_string());
     for frame in 1..=64 {
         let mark = if frame == 2 { "1111" } else { "0000" };
@@ -291,7 +333,7 @@ fn labels_of_a_made_reel() {
         "sync1@40",
         "sync2@41",
         "service=1@40",
-        "sync=1@40",
+        "sync=3@40",
         "swap@40",
         "alternate@40",
     ] {
@@ -305,7 +347,13 @@ fn labels_of_a_made_reel() {
     }
 }
 
+/// Without the wrong bits of syncs.
 fn counts_of(words: &str) -> [u64; 5] {
+    let [superframes, lost, _, clean, mended, bad] = numbers_of(words);
+    [superframes, lost, clean, mended, bad]
+}
+
+fn numbers_of(words: &str) -> [u64; 6] {
     let text = listing(&make(words));
     let numbers: Vec<u64> = text
         .lines()
@@ -329,7 +377,19 @@ fn damage() {
     assert!(counts_of("4 2 rate=100")[3] > 200);
     let upto = counts_of("4 2 upto=3");
     assert!(upto[2] > 200 && upto[3] > 400 && upto[4] > 200);
-    for word in ["noise", "sync=1", "sync=11", "swap", "alternate"] {
+    assert_eq!(numbers_of("4 2 sync=1"), [2, 0, 2, 1024, 0, 0]);
+    assert_eq!(numbers_of("4 2 sync=2@2"), [2, 0, 2, 1024, 0, 0]);
+    assert_eq!(numbers_of("4 2 syncs=1@2"), [2, 0, 128, 1024, 0, 0]);
+    assert_eq!(numbers_of("4 2 syncs=2"), [2, 0, 512, 1024, 0, 0]);
+    for word in [
+        "noise",
+        "sync=3",
+        "sync=11",
+        "syncs=3",
+        "syncs=11",
+        "swap",
+        "alternate",
+    ] {
         assert_eq!(
             counts_of(&format!("4 2 {word}@1")),
             [2, 1, 512, 0, 0],
@@ -382,6 +442,7 @@ fn words_that_are_refused() {
         "places=-1",
         "copy=1",
         "sync=12",
+        "syncs=12",
         "noise%101",
         "noise%",
         "noise@",

@@ -179,7 +179,7 @@ fn service_bits() {
     assert_eq!(state.take(&bytes), (Ok(taken), next));
 }
 
-/// One wrong sync bit in any of 128 frames, or the halves exchanged, or any other length.
+/// Three wrong sync bits in any of 128 frames, or the halves exchanged, or any other length.
 #[test]
 fn lost_superframes() {
     let state = busy_state();
@@ -187,6 +187,7 @@ fn lost_superframes() {
     let good = Superframe::zero().bytes();
     for frame in 0..128 {
         let mut bytes = good.clone();
+        bytes[40 * frame] ^= 0xc0;
         bytes[40 * frame + frame % 2] ^= 0x20;
         assert_eq!(state.take(&bytes), lost, "frame {frame}");
     }
@@ -236,7 +237,7 @@ fn sound_comes_back() {
 /// Superframe 4 is lost: 5 still has its factors, 6 has none, 7 has them again.
 #[test]
 fn factors_around_a_loss() {
-    let reel = make("5 7 sync=1@4");
+    let reel = make("5 7 sync=3@4");
     let mut state = State::fresh();
     let mut marks = Vec::new();
     for bytes in superframes(&reel) {

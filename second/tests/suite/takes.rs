@@ -156,7 +156,7 @@ fn nothing() -> String {
     let samples = sum(&[32768 - 21555; 4096]);
     let marks = sum(&[165; 4096]);
     let (numbers, factors, six) = (zeros(16), zeros(64), zeros(12));
-    format!("{eight} {eight} {eight} {numbers} {factors} 0 {six} 000 0 {samples} {marks}")
+    format!("0 {eight} {eight} {eight} {numbers} {factors} 0 {six} 000 0 {samples} {marks}")
 }
 
 fn line(lengths: &str, recipe: &Recipe, state: &State) -> String {
@@ -174,7 +174,7 @@ fn refusals() {
     let lost = good.lose().unwrap();
     let damaged = Recipe {
         place: 5081,
-        turned: 0x20,
+        turned: 0xe0,
         ..plain(5)
     };
     for lengths in [
@@ -243,6 +243,7 @@ fn answer_of_a_superframe() {
     let expected = [
         "0".to_string(),
         state_text(&next),
+        "0".to_string(),
         hex(|counts| counts.clean),
         hex(|counts| counts.mended),
         hex(|counts| counts.bad),
@@ -258,6 +259,9 @@ fn answer_of_a_superframe() {
     let said = answer(&line("5120 2048 2048", &recipe, &state));
     assert_eq!(said, Some(expected.join(" ")));
 }
+
+/// The word of an answer that has the sum of wrong sync bits, behind the number and the six of the state.
+const SYNC: usize = 7;
 
 fn byte(word: &str, n: usize) -> usize {
     usize::from_str_radix(&word[2 * n..2 * n + 2], 16).unwrap()
@@ -282,7 +286,7 @@ fn faults(words: &[&str]) -> [bool; 3] {
     [
         words[1..4] != ["5120", "2048", "2048"],
         words[6..10].iter().any(|word| over(word)),
-        place < 5120 && turned & sync != 0,
+        place < 5120 && (turned & sync).count_ones() > 2,
     ]
 }
 
@@ -296,13 +300,13 @@ fn answered(line: &str, faults: [bool; 3]) -> Vec<String> {
     said
 }
 
-/// In the systematic lines all faults come alone and together, in every main frame and every bit of a sync; and
-/// superframes that are taken bring every reading, number 5, and at each position 0 and 7, with labels and without.
+/// In the systematic lines all faults come alone and together, in every main frame; a sync has every number of wrong bits up to
+/// eight, and every bit is the only wrong one; and superframes that are taken bring every reading, number 5, and at each position 0 and 7, with labels and without.
 #[test]
 fn systematic_lines() {
     let mut unreadable = 0;
     let (mut seen, mut brought) = (HashSet::new(), HashSet::new());
-    let (mut frames, mut syncs) = (HashSet::new(), HashSet::new());
+    let (mut frames, mut syncs, mut numbers) = (HashSet::new(), HashSet::new(), HashSet::new());
     for line in calls::all().filter(|line| line.starts_with("take")) {
         if answer(&line).is_none() {
             unreadable += 1;
@@ -312,21 +316,29 @@ fn systematic_lines() {
         let faults = faults(&words);
         seen.insert(faults);
         let said = answered(&line, faults);
+        let (place, turned) = turned_in(&words);
         if said[0] == "3" {
-            let (place, turned) = turned_in(&words);
             frames.insert(place / 40);
-            syncs.insert((place % 40, turned));
+            numbers.insert(turned.count_ones());
+        }
+        if said[0] == "0" && place % 40 < 2 && said[SYNC] != "0" {
+            assert_eq!(said[SYNC], turned.count_ones().to_string(), "{line}");
+            numbers.insert(turned.count_ones());
+            if turned.count_ones() == 1 {
+                syncs.insert((place % 40, turned));
+            }
         }
         if said[0] == "0" {
-            let readings = (0..3).filter(|n| said[7 + n] != "0".repeat(16));
+            let readings = (0..3).filter(|n| said[SYNC + 1 + n] != "0".repeat(16));
             brought.extend(readings.map(|reading| format!("reading {reading}")));
-            brought.insert(format!("5 {}", said[10].contains('5')));
-            brought.insert(said[14].clone());
+            brought.insert(format!("5 {}", said[SYNC + 4].contains('5')));
+            brought.insert(said[SYNC + 8].clone());
         }
     }
     // Two that are too short, and one for each word before the state.
     assert_eq!(unreadable, 7);
     assert_eq!((seen.len(), frames.len(), syncs.len()), (8, 128, 11));
+    assert_eq!(numbers.len(), 8);
     // Three readings; with number 5 and without; nine positions with 0 and 7, and at the last one labels too.
     assert_eq!(brought.len(), 3 + 2 + 18 + 2);
 }

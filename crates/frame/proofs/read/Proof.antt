@@ -65,6 +65,7 @@ returns-3 c =
     rw (
       eq-eqb (length (a .bytes .now)) 40 (omega arith),
       le-leb (wrongSync (a .letter) (a .bytes .now)) mostWrong (omega arith),
+      wrong,
       service .service-of .ensures,
       first .gather .ensures,
       second .gather2 .ensures,

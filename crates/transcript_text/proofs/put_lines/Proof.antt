@@ -33,6 +33,9 @@ returns c = rw (ne-eqb _ _ (c .if1 .taken), append-nil) (c .before .before .befo
 put-beside-requires : tie.Need-put-beside-requires
 put-beside-requires c κs = search needs
 
+put-wrong-requires : tie.Need-put-wrong-requires
+put-wrong-requires c κs = search needs
+
 put-blocks-requires : tie.Need-put-blocks-requires
 put-blocks-requires c κs = search needs
 
@@ -46,11 +49,15 @@ returns-2 : tie.Need-returns-2
 unfolding superframeText
 returns-2 c =
     let blocks = c .before .before .before .before .before .before in
-    let beside = blocks .before .before .before .before in
+    let wrong = blocks .before .before .before .before in
+    let beside = wrong .before .before .before .before in
     let head = beside .before .before .before .before .before .before .before in
     rw (eq-eqb _ _ (beside .before .before .before .if1 .left))
     (put-then _ _ _ _ _ (head .put-head .ensures)
-    (put-then _ _ _ _ _ (beside .put-beside .ensures) (put-then _ _ _ _ _ (blocks .put-blocks .ensures) (all-frames _ _ _ _ (head .before .before .before .before .pre) (c .before .before .put-frames .ensures)))))
+    (put-then _ _ _ _ _ (beside .put-beside .ensures)
+    (put-then _ _ _ _ _ (wrong .put-wrong .ensures)
+    (put-then _ _ _ _ _ (blocks .put-blocks .ensures)
+    (all-frames _ _ _ _ (head .before .before .before .before .pre) (c .before .before .put-frames .ensures))))))
 
 pub put-lines-spec : {M : Type 1} → statement M
 put-lines-spec =
@@ -60,6 +67,7 @@ put-lines-spec =
     same-length
     returns
     put-beside-requires
+    put-wrong-requires
     put-blocks-requires
     put-frames-requires
     same-length-2

@@ -1,5 +1,5 @@
 -- `superframe::state::State::take` meets its contract. Assumes nothing.
-use mathlib.Core.Path.{_≡_, refl, sym, ap, _∙_}
+use mathlib.Core.Path.{_≡_, refl, sym, ap, ap₂, _∙_}
 use mathlib.Core.Bool.{true}
 use borrow.Author.Tests.{not-true, not-false}
 use lib.ListN.{length}
@@ -106,8 +106,8 @@ returns-4 c =
     let a = start (tested f) .args in
     let filled = good-fill (a .bytes .now) (a .self .next) (a .samples .now) (a .marks .now) _ _ _ (f .fill .ensures) (fit (tested f)) (taken .if3 .left) in
     answered-took (a .self) (a .bytes .now) (a .samples .now) (a .marks .now) _ _ _ (rw (fit (tested f), good f, filled .0))
-    (c .answered .ensures ∙ ap (besideWith (a .self) (a .bytes .now)) (filled .1))
-    (filled .2) (filled .3)
+    (c .answered .ensures ∙ ap₂ (besideWith (a .self) (a .bytes .now)) (filled .1) (filled .2))
+    (filled .3) (filled .4)
 
 pub take-spec : {M : Type 1} → statement M
 take-spec =
