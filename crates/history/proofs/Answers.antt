@@ -3,7 +3,7 @@
 --     accepted-in-range     a superframe is accepted from a state in range only
 --     service-number        the service answers 0 or 7, and no other number
 --     programme-number      each programme 0 or 5
---     counted-same          the number and the readings of a superframe that is taken or lost are those that counting gives, without a state
+--     counted-same          the number, the wrong sync bits and the readings of a superframe that is taken or lost are those that counting gives, without a state
 -- Assumes nothing.
 use mathlib.Core.Path.{_≡_, refl, sym, ap, _∙_}
 use mathlib.Core.Logic.{_⊎_, inl, inr, ⊎-elim}
@@ -70,9 +70,9 @@ sync-number s sf samples marks e =
     (λ t. let z : takeNumber s sf samples marks ≡ 1 = rw t in absurd (⊎-elim (λ e. omega arith) (λ e. omega arith) e))
 
 same-counts : (n : ℕ) (s : State) (sf : List ℕ) →
-    (takeAnswer n s sf .number ≡ countedWith n sf .number) × (takeAnswer n s sf .blocks ≡ countedWith n sf .blocks)
+    (takeAnswer n s sf .number ≡ countedWith n sf .number) × (takeAnswer n s sf .wrong ≡ countedWith n sf .wrong) × (takeAnswer n s sf .blocks ≡ countedWith n sf .blocks)
 unfolding takeAnswer besideWith refusedWith countedWith refusedCounts
-same-counts n s sf = either-way (eqb n 0) (λ t. rw t (refl, refl)) (λ t. rw t (refl, refl))
+same-counts n s sf = either-way (eqb n 0) (λ t. rw t (refl, refl, refl)) (λ t. rw t (refl, refl, refl))
 
 -- ---- a call
 module _ (s : State) (k : Call s) where
@@ -98,7 +98,7 @@ module _ (s : State) (k : Call s) where
 
   pub counted-same :
       Accepted k ⊎ LostIn k →
-      (k .answer .number ≡ countsOf (k .bytes) .number) × (k .answer .blocks ≡ countsOf (k .bytes) .blocks)
+      (k .answer .number ≡ countsOf (k .bytes) .number) × (k .answer .wrong ≡ countsOf (k .bytes) .wrong) × (k .answer .blocks ≡ countsOf (k .bytes) .blocks)
   counted-same e =
       let c = sync-number s (k .bytes) (k .lent-samples) (k .lent-marks) (⊎-elim (λ z. inl (numbered ∙ z)) (λ z. inr (numbered ∙ z)) e) in
       rw (k .took .answer, c) (same-counts number s (k .bytes))

@@ -82,8 +82,8 @@ answers-same : (n : ℕ) (s s' : State) (sf : List ℕ) → serviceOf s ≡ serv
 unfolding takeAnswer besideWith refusedWith
 answers-same n s s' sf e =
     either-way (eqb n 0)
-    (λ t. rw (t, e) (record { number = refl; blocks = refl; programmes = refl; six = refl; position = refl; service = refl; complete = refl; labels = refl }))
-    (λ t. rw t (record { number = refl; blocks = refl; programmes = refl; six = refl; position = refl; service = refl; complete = refl; labels = refl }))
+    (λ t. rw (t, e) (record { number = refl; wrong = refl; blocks = refl; programmes = refl; six = refl; position = refl; service = refl; complete = refl; labels = refl }))
+    (λ t. rw t (record { number = refl; wrong = refl; blocks = refl; programmes = refl; six = refl; position = refl; service = refl; complete = refl; labels = refl }))
 
 module _ (P R : List ℕ → List ℕ → Type 0) (s s' : State) (alike : Alike P R s s') (k : Call s) (k' : Call s') (bytes : k .bytes ≡ k' .bytes) (lent : LentAlike k k') where
   same-number : k .answer .number ≡ k' .answer .number
@@ -212,6 +212,7 @@ module _ (q : ℕ) (low : 1 ≤ q) (high : q ≤ 16) (sf sf' : List ℕ) (d : On
       let six = one.six-same q low high sf sf' d in
       record {
         number = refl;
+        wrong = one.wrong-sum-same q low high sf sf' d;
         blocks = blocks-same;
         words = words-same;
         numbers = numbers-same;

@@ -1,5 +1,5 @@
 -- Two superframes that differ in the 42 scale bits of one programme alone: everything else that is read of them is the same.
---     sync-same             the 128 syncs
+--     sync-same, wrong-sum-same     the 128 syncs, and their wrong bits added
 --     reading-same, code-same   every reading, and every code that is handed on
 --     extra-same, word-same     the extra bits of every other programme, and the programme's own information word
 --     six-same              the six service bytes and their sync
@@ -26,9 +26,10 @@ use Rattle.frame.specs.Frame.{syncWord, serviceIn, placeOf, deinterleave, Belon
 use Rattle.frame.specs.Read.{wrongSync, mostWrong, serviceRead, blockOf}
 use Rattle.frame.specs.declared.Letter.{Letter}
 use Rattle.frame.proofs.Places.{place-once}
-use Rattle.tape.specs.Tape.{frameAt, letterOf, wrongAt, synced, blockIn, readingIn, blockMark, markOf}
+use Rattle.tape.specs.Tape.{frameAt, letterOf, wrongAt, wrongBits, synced, blockIn, readingIn, blockMark, markOf}
 use Rattle.tape.specs.Document.{Carries, a-first, a-second, b-first, b-second}
 use Rattle.tape.proofs.Tape.{block-there, block-bits, reading-there}
+use Rattle.tape.proofs.Wrong.{sum-ext}
 use Rattle.beside.specs.Beside.{extraBit, extraBits, serviceBit, serviceBits, sixOf, syncOf, sixAndSync}
 use Rattle.beside.specs.Document.{extraNumber, ScaleBit, OnlyScale}
 use Rattle.beside.proofs.Carried.{frame-bit, block-bit, extra-there, service-there}
@@ -95,6 +96,10 @@ module _ (q : ℕ) (k : 1 ≤ q) (l : q ≤ 16) (sf sf' : List ℕ) (d : OnlySca
   pub sync-same : synced sf ≡ synced sf'
   unfolding synced
   sync-same = ap (every (λ n. leb n mostWrong)) (tab-ext 128 (wrongAt sf) (wrongAt sf') (λ a h. wrong-same a))
+
+  pub wrong-sum-same : wrongBits sf ≡ wrongBits sf'
+  unfolding wrongBits
+  wrong-sum-same = sum-ext 128 (wrongAt sf) (wrongAt sf') (λ a h. wrong-same a)
 
   service-same : (f : ℕ) → serviceBit sf f ≡ serviceBit sf' f
   service-same f = sym (service-there sf f) ∙ frame-bit sf f 11 (omega arith) ∙ head-same f 11 (omega arith) ∙ sym (frame-bit sf' f 11 (omega arith)) ∙ service-there sf' f

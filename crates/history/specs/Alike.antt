@@ -31,6 +31,7 @@ pub record LentAlike {s s' : State} (k : Call s) (k' : Call s') : Type 0 where
 
 pub record SameAnswer (r r' : Taken) : Type 0 where
   pub number : r .number ≡ r' .number
+  pub wrong : r .wrong ≡ r' .wrong
   pub blocks : r .blocks ≡ r' .blocks
   pub programmes : r .programmes ≡ r' .programmes
   pub six : r .six ≡ r' .six
@@ -41,6 +42,7 @@ pub record SameAnswer (r r' : Taken) : Type 0 where
 
 pub record AnswerBut (q : ℕ) (r r' : Taken) : Type 0 where
   pub number : r .number ≡ r' .number
+  pub wrong : r .wrong ≡ r' .wrong
   pub blocks : r .blocks ≡ r' .blocks
   pub words : r .programmes .words ≡ r' .programmes .words
   pub numbers : (p : ℕ) → p < 16 → p ≢ q - 1 → getD (r .programmes .numbers) p 0 ≡ getD (r' .programmes .numbers) p 0
