@@ -2,7 +2,8 @@
 --     grown total by        a total and what is added; it stops at the largest number of 64 bits
 --     sumOf l               the sum of some numbers
 --     noTotals              before the first superframe
---     withCounted t c       after one superframe more, by what was counted in it: it is read, perhaps lost, and its blocks are clean, mended or bad
+--     withCounted t c       after one superframe more, by what was counted in it: it is read, perhaps lost, bits of its syncs are wrong, and its blocks are
+--                           clean, mended or bad
 --     isCounted n           whether a superframe counted under a number is one more: number 0, and 3 for a lost one. The listing goes on after it
 --     addedTo t c           what is answered: 0 and the totals with it, or the number of what is none and the totals as they were
 --     stepOf t sf           the same for a superframe by its bytes
