@@ -5,7 +5,11 @@ use Prim.Native.Nat.{ℕ}
 use Rattle.bits.proofs.Unique.{same}
 use Rattle.bits.specs.Digits.{value}
 use Rattle.remainder.specs.Remainder.{remainder, checkBits}
+use Rattle.eights.specs.Eights.{remaindersOf}
 use Rattle.code.specs.Generators.{blockGenerator, scaleGenerator}
+
+pub remainders-unique : (r r′ : List ℕ) → r ≡ remaindersOf blockGenerator → r′ ≡ remaindersOf blockGenerator → r ≡ r′
+remainders-unique r r′ = same
 
 module _ (bits : List ℕ) (r r′ : ℕ) where
   pub block-check-unique : r ≡ value 2 (checkBits blockGenerator bits) → r′ ≡ value 2 (checkBits blockGenerator bits) → r ≡ r′

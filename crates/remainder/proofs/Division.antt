@@ -8,6 +8,9 @@
 --     remainder-more            zeros behind a multiple of the generator leave a multiple of it
 --     remainder-short           as many bits as the degree are their own remainder
 --     remainder-behind          what the last bits add
+--     remainder-on              a division that goes on behind a word
+--     divide-many               THE LAW OF MANY STEPS: as many bits as the upper part of a register has come behind its lower part, and the check bits of the
+--                               upper part are added
 --     remainder-check           a word followed by its check bits leaves remainder zero
 --     check-only                and no other bits behind the word do
 --     length-check, below-check as many check bits as the degree, each 0 or 1
@@ -167,3 +170,16 @@ module _ (g : List ℕ) where
   pub check-only : (w c : List ℕ) → Below 2 w → Below 2 c → length c ≡ length g → remainder g (w ++ c) ≡ zeros (length g) → c ≡ checkBits g w
   check-only w c bw bc h e =
       sym (⊕-cancel (checkBits g w) c (length g) (below-check w) bc (length-check w) h (sym (remainder-behind w c bw bc h) ∙ e))
+
+  -- ---- many steps at once
+  pub remainder-on : (v w : List ℕ) → remainder g (v ++ w) ≡ divide g (remainder g v) w
+  unfolding remainder
+  remainder-on v w = divide-append (zeros (length g)) v w
+
+  pub divide-many : (top low w : List ℕ) → Below 2 top → Below 2 low → Below 2 w → length top + length low ≡ length g → length w ≡ length top
+      → divide g (top ++ low) w ≡ checkBits g top ⊕ (low ++ w)
+  divide-many top low w bt bl bw h k =
+      ap (λ (r : List ℕ). divide g r w) (sym (remainder-short (top ++ low) (below-append 2 top low bt bl) (length-append top low ∙ h)))
+      ∙ sym (remainder-on (top ++ low) w)
+      ∙ ap (remainder g) (append-assoc top low w)
+      ∙ remainder-behind top (low ++ w) bt (below-append 2 low w bl bw) (length-append low w ∙ omega arith)
