@@ -106,7 +106,7 @@ t-column i l =
     let c : List ℕ = column g (63 - 1 - i) in
     getD-columns g 63 i l ∙ sym (digits-value 2 19 c (below-column g (63 - 1 - i)) (length-column g (63 - 1 - i) ∙ block-size)) ∙ ap (digits 2 19) (sym (t-value i l))
 
-t-small : (i : ℕ) → i < 63 → t i < 2 ^ 19
+pub t-small : (i : ℕ) → i < 63 → t i < 2 ^ 19
 t-small i l =
     let c : List ℕ = column g (63 - 1 - i) in
     rw (t-value i l) (rw (length-column g (63 - 1 - i), block-size) at (value-below 2 c (below-column g (63 - 1 - i))))

@@ -87,7 +87,8 @@ pub enum Places {
     Nowhere,
 }
 
-fn columns() -> [u32; 63]
+// What each place alone leaves.
+pub fn columns() -> [u32; 63]
     ensures { λ r. ⌜ r ≡ columnNumbers ⌝ }
 {
     COLUMNS
