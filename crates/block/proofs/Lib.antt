@@ -4,3 +4,4 @@ pub mod Answered
 pub mod Demand
 pub mod Unique
 pub mod Printed
+pub mod Mark

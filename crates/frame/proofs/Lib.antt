@@ -6,3 +6,4 @@ pub mod Reading
 pub mod Unique
 pub mod Printed
 pub mod Order
+pub mod Window

@@ -1,6 +1,9 @@
 // Main frames, their layout and how they are read (docs/FORMAT.md, "Main frame"): 320 bits in 40 bytes, two kinds, A and B.
 ghost use mathlib.Core.Path.{_≡_};
-ghost use Prim.Native.Nat.{_<_};
+ghost use Prim.Native.Nat.{ℕ, _+_, _-_, _*_, _/_, _%_, _^_, _<_, _≤_};
+ghost use lib.ListN.{length};
+ghost use Rattle.bits.specs.Table.{tabulate};
+ghost use Rattle.bits.specs.Bits.{bitAt};
 ghost use Rattle.frame.specs.Frame.{syncWord, serviceIn};
 ghost use Rattle.frame.specs.Read.{wrongSync, serviceRead, blockOf, gatheredOf, nothing, readFrame};
 
@@ -73,19 +76,49 @@ fn service_of(letter: Letter, bytes: &[u8]) -> u8
     carried(letter, bits::bit_of(bytes, 11))
 }
 
-// Block b, counted from 0, out of its pair.
-fn gather(bytes: &[u8], b: usize) -> [u8; 77]
-    requires { ⌜ b < 4 ⌝ }
-    ensures { λ r. ⌜ r ≡ blockOf (now (bytes .entry)) b ⌝ }
+fn wide(byte: u8) -> u16
+    ensures { λ r. ⌜ (r ≡ byte) × (r < 256) ⌝ }
+{
+    byte as u16
+}
+
+// The eight bits from bit `over` of byte `at` on.
+fn eight_from(bytes: &[u8], at: usize, over: u16) -> u8
+    requires { ⌜ (at + 1 < length (now bytes)) × (over < 8) ⌝ }
+    ensures { λ r. ⌜ ((q : ℕ) → q < 8 → r / 2 ^ (7 - q) % 2 ≡ bitAt (now (bytes .entry)) (8 * at + over + q)) ⌝ }
+{
+    let both = wide(bytes[at]) * 256 + wide(bytes[at + 1]);
+    ((both >> (8 - over)) % 256) as u8
+}
+
+// Every second bit from a place on, 77 of them: eight bits of the frame, from any bit on, hold four.
+fn every_second(bytes: &[u8], start: usize) -> [u8; 77]
+    requires { ⌜ (start < 168) × (40 ≤ length (now bytes)) ⌝ }
+    ensures { λ r. ⌜ r ≡ tabulate 77 (λ j. bitAt (now (bytes .entry)) (start + 2 * j)) ⌝ }
 {
     let mut out = [0u8; 77];
-    let start = 12 + 154 * (b / 2) + b % 2;
-    let mut j: usize = 0;
-    while j < 77 {
-        out[j] = bits::bit_of(bytes, start + 2 * j);
-        j += 1;
+    let first = start / 8;
+    let over = (start % 8) as u16;
+    let mut g: usize = 0;
+    while g < 19 {
+        let eight = eight_from(bytes, first + g, over);
+        let j = 4 * g;
+        out[j] = eight / 128 % 2;
+        out[j + 1] = eight / 32 % 2;
+        out[j + 2] = eight / 8 % 2;
+        out[j + 3] = eight / 2 % 2;
+        g += 1;
     }
+    out[76] = bits::bit_of(bytes, start + 152);
     out
+}
+
+// Block b, counted from 0, out of its pair.
+fn gather(bytes: &[u8], b: usize) -> [u8; 77]
+    requires { ⌜ (b < 4) × (40 ≤ length (now bytes)) ⌝ }
+    ensures { λ r. ⌜ r ≡ blockOf (now (bytes .entry)) b ⌝ }
+{
+    every_second(bytes, 12 + 154 * (b / 2) + b % 2)
 }
 
 // A block out of a whole main frame.

@@ -20,7 +20,8 @@ use Rattle.bits.specs.Table.{tabulate}
 use Rattle.bits.proofs.Table.{getD-tab, tab-ext}
 use Rattle.bits.proofs.Tests.{either-way}
 use Rattle.service.specs.declared.Service.{Service}
-use Rattle.tape.specs.Tape.{synced, readingIn, markOf, blockMark, howMany, tallied, blocksOf}
+use Rattle.block.specs.Mark.{markOf}
+use Rattle.tape.specs.Tape.{synced, readingIn, blockMark, howMany, tallied, blocksOf}
 use Rattle.tape.proofs.Tape.{many-same}
 use Rattle.tape.specs.Document.{entry, channelOf}
 use Rattle.sound.specs.Document.{placeIn}

@@ -26,7 +26,8 @@ use Rattle.frame.specs.Frame.{syncWord, serviceIn, placeOf, deinterleave, Belon
 use Rattle.frame.specs.Read.{wrongSync, mostWrong, serviceRead, blockOf}
 use Rattle.frame.specs.declared.Letter.{Letter}
 use Rattle.frame.proofs.Places.{place-once}
-use Rattle.tape.specs.Tape.{frameAt, letterOf, wrongAt, wrongBits, synced, blockIn, readingIn, blockMark, markOf}
+use Rattle.block.specs.Mark.{markOf}
+use Rattle.tape.specs.Tape.{frameAt, letterOf, wrongAt, wrongBits, synced, blockIn, readingIn, blockMark}
 use Rattle.tape.specs.Document.{Carries, a-first, a-second, b-first, b-second}
 use Rattle.tape.proofs.Tape.{block-there, block-bits, reading-there}
 use Rattle.tape.proofs.Wrong.{sum-ext}

@@ -29,7 +29,8 @@ use Rattle.block.proofs.Demand.{heard, third}
 use Rattle.block_codes.specs.Codes.{codeAt, codesAt, codesOf}
 use Rattle.block_codes.specs.declared.BlockCodes.{BlockCodes}
 use Rattle.block_writer.proofs.Back.{written-clean, written-codes}
-use Rattle.tape.specs.Tape.{blockIn, markOf, blockMark}
+use Rattle.block.specs.Mark.{markOf}
+use Rattle.tape.specs.Tape.{blockIn, blockMark}
 use Rattle.sound.specs.Sound.{soundAt, markWith, codeIn, sampleAt, markAt}
 use Rattle.history.specs.Calls.{SentIn}
 use Rattle.tape.proofs.Tape.{reading-there}

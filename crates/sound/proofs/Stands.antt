@@ -18,7 +18,8 @@ use Rattle.block.specs.Read.{Said, clean, mended, bad, said, ordinary, protecte
 use Rattle.block_codes.specs.Codes.{codeAt}
 use Rattle.frame.specs.Read.{blockOf}
 use Rattle.tape.specs.Tape.{frameAt, blockIn, readingIn, blockMark}
-use Rattle.tape.specs.Document.{entry, channelOf, Carries, a-first, a-second, b-first, b-second, Marked}
+use Rattle.block.specs.Mark.{Marked}
+use Rattle.tape.specs.Document.{entry, channelOf, Carries, a-first, a-second, b-first, b-second}
 use Rattle.tape.proofs.Tape.{reading-there}
 use Rattle.tape.proofs.Carried.{carried, block-says}
 use Rattle.sound.specs.Sound.{soundAt, markWith, codeIn, sampleAt, markAt, inRows, samplesOf, marksOf}

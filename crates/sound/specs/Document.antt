@@ -11,7 +11,7 @@ use Rattle.sample.specs.Sample.{sampleOf}
 use Rattle.reading.specs.Search.{reading}
 use Rattle.block.specs.Read.{said, ordinary, protected, handedOn}
 use Rattle.block_codes.specs.Codes.{codeAt}
-use Rattle.tape.specs.Document.{Marked}
+use Rattle.block.specs.Mark.{Marked}
 
 abbrev pub placeIn : ℕ → ℕ → ℕ
 placeIn f c = 32 * (f - 1) + c

@@ -5,6 +5,7 @@ ghost use Prim.Native.Nat.{_+_, _*_, _<_};
 ghost use lib.ListN.{length};
 ghost use Rattle.bits.specs.Table.{tabulate};
 ghost use Rattle.sample.specs.Sample.{isCode};
+ghost use Rattle.words.specs.Words.{Tables};
 ghost use Rattle.tape.specs.Tape.{blockMark, inEights};
 ghost use Rattle.sound.specs.Sound.{soundAt, markWith, inRows, sampleAt, markAt, samplesOf, marksOf, lengthsFit, Filled};
 use sample::Sampled;
@@ -29,15 +30,36 @@ fn marked(mark: u8, factor: u8) -> u8
 }
 
 // Block n, frame number by frame number: four samples and four marks, and the block's own mark.
-fn four(sf: &[u8], n: usize, factors: &[u8; 32], samples: &mut [i16], marks: &mut [u8]) -> u8
+fn four(
+    table: &[u32; 256],
+    singles: &[u32; 63],
+    pairs: &[u32; 1953],
+    places: &[u16; 1953],
+    starts: &[u16; 257],
+    sf: &[u8],
+    n: usize,
+    factors: &[u8; 32],
+    samples: &mut [i16],
+    marks: &mut [u8],
+) -> u8
     requires { ⌜ (length (now sf) ≡ 5120) × (n < 512) ⌝ }
     requires { ⌜ length (now samples) ≡ 4 ⌝ }
     requires { ⌜ length (now marks) ≡ 4 ⌝ }
+    requires { ⌜ Tables (now table) (now singles) (now pairs) (now places) (now starts) ⌝ }
     ensures { λ r. ⌜ r ≡ inEights (blockMark (now (sf .entry))) n ⌝ }
     ensures { λ _. ⌜ now (samples .exit) ≡ tabulate 4 (λ j. inRows (sampleAt (now (sf .entry)) (now (factors .entry))) (4 * n + j)) ⌝ }
     ensures { λ _. ⌜ now (marks .exit) ≡ tabulate 4 (λ j. inRows (markAt (now (sf .entry)) (now (factors .entry))) (4 * n + j)) ⌝ }
 {
-    let block = tape::read_at(sf, (n / 8) as u8, (n % 8) as u8);
+    let block = tape::read_at(
+        table,
+        singles,
+        pairs,
+        places,
+        starts,
+        sf,
+        (n / 8) as u8,
+        (n % 8) as u8,
+    );
     let mark = block.mark;
     let codes = block.codes;
     let first = 4 * (n % 8);
@@ -54,10 +76,21 @@ fn four(sf: &[u8], n: usize, factors: &[u8; 32], samples: &mut [i16], marks: &mu
 }
 
 // All 2,048 places of both; the blocks' own marks are handed back.
-fn fill_all(sf: &[u8], factors: &[u8; 32], samples: &mut [i16], marks: &mut [u8]) -> [u8; 512]
+fn fill_by(
+    table: &[u32; 256],
+    singles: &[u32; 63],
+    pairs: &[u32; 1953],
+    places: &[u16; 1953],
+    starts: &[u16; 257],
+    sf: &[u8],
+    factors: &[u8; 32],
+    samples: &mut [i16],
+    marks: &mut [u8],
+) -> [u8; 512]
     requires { ⌜ length (now sf) ≡ 5120 ⌝ }
     requires { ⌜ length (now samples) ≡ 2048 ⌝ }
     requires { ⌜ length (now marks) ≡ 2048 ⌝ }
+    requires { ⌜ Tables (now table) (now singles) (now pairs) (now places) (now starts) ⌝ }
     ensures { λ r. ⌜ r ≡ tabulate 512 (inEights (blockMark (now (sf .entry)))) ⌝ }
     ensures { λ _. ⌜ now (samples .exit) ≡ samplesOf (now (sf .entry)) (now (factors .entry)) ⌝ }
     ensures { λ _. ⌜ now (marks .exit) ≡ marksOf (now (sf .entry)) (now (factors .entry)) ⌝ }
@@ -67,11 +100,49 @@ fn fill_all(sf: &[u8], factors: &[u8; 32], samples: &mut [i16], marks: &mut [u8]
     while n < 512 {
         let a = 4 * n;
         let e = a + 4;
-        let mark = four(sf, n, factors, &mut samples[a..e], &mut marks[a..e]);
+        let mark = four(
+            table,
+            singles,
+            pairs,
+            places,
+            starts,
+            sf,
+            n,
+            factors,
+            &mut samples[a..e],
+            &mut marks[a..e],
+        );
         out[n] = mark;
         n += 1;
     }
     out
+}
+
+// The same, with the tables made.
+fn fill_all(sf: &[u8], factors: &[u8; 32], samples: &mut [i16], marks: &mut [u8]) -> [u8; 512]
+    requires { ⌜ length (now sf) ≡ 5120 ⌝ }
+    requires { ⌜ length (now samples) ≡ 2048 ⌝ }
+    requires { ⌜ length (now marks) ≡ 2048 ⌝ }
+    ensures { λ r. ⌜ r ≡ tabulate 512 (inEights (blockMark (now (sf .entry)))) ⌝ }
+    ensures { λ _. ⌜ now (samples .exit) ≡ samplesOf (now (sf .entry)) (now (factors .entry)) ⌝ }
+    ensures { λ _. ⌜ now (marks .exit) ≡ marksOf (now (sf .entry)) (now (factors .entry)) ⌝ }
+{
+    let table = code::remainders();
+    let singles = reading::columns();
+    let pairs = pairs::pairs();
+    let places = pairs::places();
+    let starts = pairs::starts();
+    fill_by(
+        &table,
+        &singles,
+        &pairs,
+        &places,
+        &starts,
+        sf,
+        factors,
+        samples,
+        marks,
+    )
 }
 
 // Whether a superframe and the two lists for its samples and marks have their lengths.

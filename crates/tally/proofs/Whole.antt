@@ -10,7 +10,8 @@ use lib.Dec.{eqb}
 use lib.ListN.{getD}
 use Rattle.bits.proofs.Tests.{either-way}
 use Rattle.block.specs.Read.{Said, clean, mended, bad}
-use Rattle.tape.specs.Tape.{synced, readings, markOf, howMany}
+use Rattle.block.specs.Mark.{markOf}
+use Rattle.tape.specs.Tape.{synced, readings, howMany}
 use Rattle.tally.specs.Reel.{isLost, markOnTape, blocksWith}
 
 -- 1 where the mark is m

@@ -13,7 +13,8 @@ use mathlib.Core.List.{List, [], _∷_}
 use lib.Dec.{eqb}
 use lib.ListN.{length, getD}
 use Rattle.block.specs.Read.{bad}
-use Rattle.tape.specs.Tape.{synced, wrongBits, readings, markOf, howMany}
+use Rattle.block.specs.Mark.{markOf}
+use Rattle.tape.specs.Tape.{synced, wrongBits, readings, howMany}
 use Rattle.tally.specs.declared.Totals.{Totals}
 
 unfoldable pub isLost : List ℕ → ℕ

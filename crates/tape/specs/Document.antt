@@ -4,8 +4,6 @@
 --     Carries f b q frame place     "Block b of A carries stereo programmes 2b-1 and 2b; block b of B carries 2b+7 and 2b+8": block b of main frame `frame` of
 --                                   the 128 carries programme q in frame number f of the 64, as the first (place 1) or the second (place 2) of its two
 --     wrongBit sf f k               bit k of the sync of main frame f is not that of its letter's word; f and k count from 0
---     IsMended r                    a reading that is mended, with whatever number of places
---     Marked r m                    "0 clean, 1 mended, 2 block bad": mark m says so of reading r, and of no other
 use Prim.Native.Nat.{ℕ, _+_, _-_, _*_}
 use mathlib.Core.Path.{_≡_}
 use mathlib.Core.Bool.{Bool, true, false, cond}
@@ -13,7 +11,6 @@ use mathlib.Core.List.{List}
 use lib.Dec.{eqb}
 use lib.ListN.{getD}
 use Rattle.bits.specs.Bits.{bitAt}
-use Rattle.block.specs.Read.{Said, clean, mended, bad}
 use Rattle.frame.specs.Frame.{syncWord}
 use Rattle.tape.specs.Tape.{frameAt, letterOf}
 
@@ -31,15 +28,3 @@ pub data Carries (f b : ℕ) : ℕ → ℕ → ℕ → Type 0 where
   a-second : Carries f b (2 * b) f 2
   b-first : Carries f b (2 * b + 7) (64 + f) 1
   b-second : Carries f b (2 * b + 8) (64 + f) 2
-
-pub record IsMended (r : Said) : Type 0 where
-  pub places : ℕ
-  pub is : r ≡ mended places
-
-pub record Marked (r : Said) (m : ℕ) : Type 0 where
-  pub zero-clean : m ≡ 0 → r ≡ clean
-  pub clean-zero : r ≡ clean → m ≡ 0
-  pub one-mended : m ≡ 1 → IsMended r
-  pub mended-one : IsMended r → m ≡ 1
-  pub two-bad : m ≡ 2 → r ≡ bad
-  pub bad-two : r ≡ bad → m ≡ 2

@@ -1,12 +1,12 @@
-// The 512 blocks of a superframe, read and counted, from its bytes alone.
+// The 512 blocks of a superframe, read by the tables (document 02, P3) and counted, from its bytes alone.
 ghost use mathlib.Core.Path.{_≡_};
 ghost use Prim.Native.Nat.{_<_};
 ghost use Rattle.bits.specs.Table.{tabulate};
 ghost use lib.Dec.{eqb};
 ghost use lib.ListN.{length};
-ghost use Rattle.tape.specs.Tape.{blockIn, toldMark, blockMark, quadIn, refusedQuad, quadAnswer, howMany, talliedBy, inEights, markAmong, gatheredFrom, refusedCounts, countsOf};
+ghost use Rattle.words.specs.Words.{toldBy, Tables};
+ghost use Rattle.tape.specs.Tape.{blockIn, blockMark, quadOf, refusedQuad, quadBy, howMany, talliedBy, inEights, markAmong, gatheredFrom, refusedCounts, countsOf};
 use super::frames;
-use block::BlockReading;
 
 // For each of the eight block positions, how many of its 64 blocks read so.
 pub struct Blocks {
@@ -40,31 +40,25 @@ fn block_at(sf: &[u8], f: u8, p: u8) -> [u8; 77]
     gathered.bits
 }
 
-// A block of a main frame is bits: the last case does not come.
-fn mark_of(reading: BlockReading) -> u8
-    ensures { λ r. ⌜ r ≡ toldMark reading ⌝ }
-{
-    match reading {
-        BlockReading::Clean => 0,
-        BlockReading::Mended(_) => 1,
-        BlockReading::Bad => 2,
-        BlockReading::OutOfRange => 2,
-    }
-}
-
-// The block in position p of frame number f as it is read and handed on.
-fn quad_at(sf: &[u8], f: u8, p: u8) -> Quad
+// The same block as it is read.
+fn quad_at(
+    table: &[u32; 256],
+    singles: &[u32; 63],
+    pairs: &[u32; 1953],
+    places: &[u16; 1953],
+    starts: &[u16; 257],
+    sf: &[u8],
+    f: u8,
+    p: u8,
+) -> Quad
     requires { ⌜ (length (now sf) ≡ 5120) × (f < 64) × (p < 8) ⌝ }
-    ensures { λ r. ⌜ r ≡ quadIn (now (sf .entry)) f p ⌝ }
+    ensures { λ r. ⌜ r ≡ quadOf (toldBy (now (table .entry)) (now (singles .entry)) (now (pairs .entry)) (now (places .entry)) (now (starts .entry)) (blockIn (now (sf .entry)) f p)) ⌝ }
 {
-    let read = block::read(block_at(sf, f, p));
-    let reading = read.reading;
-    let bits = read.bits;
-    let taken = block_codes::codes_of(bits);
-    let codes = taken.codes;
+    let told = words::read_by(table, singles, pairs, places, starts, block_at(sf, f, p));
+    let codes = told.codes;
     Quad {
         number: 0,
-        mark: mark_of(reading),
+        mark: told.mark,
         codes,
     }
 }
@@ -80,8 +74,17 @@ fn no_quad(number: u8) -> Quad
 }
 
 // The same for any bytes and any place.
-pub fn read_at(sf: &[u8], f: u8, p: u8) -> Quad
-    ensures { λ r. ⌜ r ≡ quadAnswer (now (sf .entry)) f p ⌝ }
+pub fn read_at(
+    table: &[u32; 256],
+    singles: &[u32; 63],
+    pairs: &[u32; 1953],
+    places: &[u16; 1953],
+    starts: &[u16; 257],
+    sf: &[u8],
+    f: u8,
+    p: u8,
+) -> Quad
+    ensures { λ r. ⌜ r ≡ quadBy (now (table .entry)) (now (singles .entry)) (now (pairs .entry)) (now (places .entry)) (now (starts .entry)) (now (sf .entry)) f p ⌝ }
 {
     if sf.len() != 5120 {
         return no_quad(1);
@@ -92,22 +95,51 @@ pub fn read_at(sf: &[u8], f: u8, p: u8) -> Quad
     if 8 <= p {
         return no_quad(2);
     }
-    quad_at(sf, f, p)
+    quad_at(table, singles, pairs, places, starts, sf, f, p)
 }
 
 // The marks of all blocks, frame number by frame number.
-fn all_marks(sf: &[u8]) -> [u8; 512]
+fn marks_by(
+    table: &[u32; 256],
+    singles: &[u32; 63],
+    pairs: &[u32; 1953],
+    places: &[u16; 1953],
+    starts: &[u16; 257],
+    sf: &[u8],
+) -> [u8; 512]
     requires { ⌜ length (now sf) ≡ 5120 ⌝ }
+    requires { ⌜ Tables (now table) (now singles) (now pairs) (now places) (now starts) ⌝ }
     ensures { λ r. ⌜ r ≡ tabulate 512 (inEights (blockMark (now (sf .entry)))) ⌝ }
 {
     let mut out = [0u8; 512];
     let mut n: usize = 0;
     while n < 512 {
-        let block = quad_at(sf, (n / 8) as u8, (n % 8) as u8);
+        let block = quad_at(
+            table,
+            singles,
+            pairs,
+            places,
+            starts,
+            sf,
+            (n / 8) as u8,
+            (n % 8) as u8,
+        );
         out[n] = block.mark;
         n += 1;
     }
     out
+}
+
+fn all_marks(sf: &[u8]) -> [u8; 512]
+    requires { ⌜ length (now sf) ≡ 5120 ⌝ }
+    ensures { λ r. ⌜ r ≡ tabulate 512 (inEights (blockMark (now (sf .entry)))) ⌝ }
+{
+    let table = code::remainders();
+    let singles = reading::columns();
+    let pairs = pairs::pairs();
+    let places = pairs::places();
+    let starts = pairs::starts();
+    marks_by(&table, &singles, &pairs, &places, &starts, sf)
 }
 
 // How many blocks of a position have a mark.

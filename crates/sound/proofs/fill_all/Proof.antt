@@ -1,141 +1,66 @@
--- `sound::fill_all` meets its contract. Assumes nothing.
-use mathlib.Core.Path.{_≡_, sym, ap, _∙_}
-use mathlib.Core.List.{[]}
-use Prim.Native.Nat.{_-_, _*_, _≤_}
-use native.Mathlib.Omega.{arith}
-use lib.ListN.{length, take, length-take, length-drop}
-use Rattle.bits.specs.Table.{tabulate}
-use Rattle.bits.proofs.Table.{tab-none, tab-more, tab-done, filled, filled-zero, filled-all, length-filled}
-use Rattle.tape.specs.Tape.{blockMark, inEights}
-use Rattle.sound.specs.Sound.{sampleAt, markAt, inRows, samplesOf, marksOf}
-use Rattle.sound.proofs.Samples.{part-back}
+-- `sound::fill_all` meets its contract: the tables that it makes are the true ones. Assumes nothing.
 use borrow.Author.Needs.{needs}
 use Rattle.sound.proofs.fill_all.Statement.{statement}
 use Rattle.sound.proofs.fill_all.Tie as tie
 
-abbrev Inv-loop : tie.InvT-loop
-Inv-loop sf factors samples₀ marks₀ out₀ n₀ samples marks out n =
-    (n ≤ 512)
-    × (samples ≡ filled (inRows (sampleAt sf factors)) (4 * n) samples₀)
-    × (marks ≡ filled (inRows (markAt sf factors)) (4 * n) marks₀)
-    × (length out ≡ 512)
-    × (take n out ≡ tabulate n (inEights (blockMark sf)))
+remainders-requires : tie.Need-remainders-requires
+remainders-requires c κs = search needs
 
-abbrev μ-loop : tie.MeasureT-loop
-μ-loop sf factors samples₀ marks₀ out₀ n₀ samples marks out n = 512 - n
+columns-requires : tie.Need-columns-requires
+columns-requires c κs = search needs
 
--- the two slices are as long at the loop's head as they were
-module _ (c : tie.At-loop Inv-loop μ-loop) where
-  long : length (c .loop .samples) ≡ 2048
-  long =
-      let s = c .before .before .before in
-      let n : length (s .args .samples .now) ≡ 2048 = s .pre .1 .0 in
-      ap length (c .loop .inv .1) ∙ length-filled _ (4 * c .loop .n) (s .args .samples .now) (omega arith) ∙ n
+pairs-requires : tie.Need-pairs-requires
+pairs-requires c κs = search needs
 
-  long' : length (c .loop .marks) ≡ 2048
-  long' =
-      let s = c .before .before .before in
-      let n : length (s .args .marks .now) ≡ 2048 = s .pre .1 .1 in
-      ap length (c .loop .inv .2) ∙ length-filled _ (4 * c .loop .n) (s .args .marks .now) (omega arith) ∙ n
+places-requires : tie.Need-places-requires
+places-requires c κs = search needs
 
-loop-holds : tie.Need-loop-holds Inv-loop μ-loop
-loop-holds c = (search needs, filled-zero _ _, filled-zero _ _, search needs, tab-none (inEights (blockMark (c .before .before .args .sf .now))) [])
+starts-requires : tie.Need-starts-requires
+starts-requires c κs = search needs
 
-mul-a : tie.Need-mul-a Inv-loop μ-loop
-mul-a c = search needs
-
-add-e : tie.Need-add-e Inv-loop μ-loop
-add-e c = search needs
-
-mul-four : tie.Need-mul-four Inv-loop μ-loop
-mul-four c = search needs
-
-sub-four : tie.Need-sub-four Inv-loop μ-loop
-sub-four c = search needs
-
-part-four-start : tie.Need-part-four-start Inv-loop μ-loop
-part-four-start c = search needs
-
-part-four-end : tie.Need-part-four-end Inv-loop μ-loop
-part-four-end c = omega (arith, long (c .before))
-
-sub-four-2 : tie.Need-sub-four-2 Inv-loop μ-loop
-sub-four-2 c = search needs
-
-part-four-start-2 : tie.Need-part-four-start-2 Inv-loop μ-loop
-part-four-start-2 c = search needs
-
-part-four-end-2 : tie.Need-part-four-end-2 Inv-loop μ-loop
-part-four-end-2 c = omega (arith, long' (c .before .before))
-
-four-requires : tie.Need-four-requires Inv-loop μ-loop
-four-requires c κs =
-    let h = c .before .before .before in
-    ((h .before .before .before .pre .0, search needs), (rw (length-take, length-drop, long h) (omega arith), rw (length-take, length-drop, long' h) (omega arith)))
-
-array-write-out : tie.Need-array-write-out Inv-loop μ-loop
-array-write-out c = search needs
-
-add-n : tie.Need-add-n Inv-loop μ-loop
-add-n c = search needs
-
-loop-less : tie.Need-loop-less Inv-loop μ-loop
-loop-less c = search needs
-
-loop-again : tie.Need-loop-again Inv-loop μ-loop
-loop-again c =
-    let d = c .before .before .before in
-    let lent = d .before .before in
-    let h = lent .before .before in
-    let s = h .before .before .before in
-    let a = s .args in
-    let n : length (a .samples .now) ≡ 2048 = s .pre .1 .0 in
-    let n' : length (a .marks .now) ≡ 2048 = s .pre .1 .1 in (
-      search needs,
-      part-back (inRows (sampleAt (a .sf .now) (a .factors .now))) (h .loop .n) (a .samples .now) _ _ (omega arith) (h .loop .inv .1) (d .four .ensures .1 .0),
-      part-back (inRows (markAt (a .sf .now) (a .factors .now))) (h .loop .n) (a .marks .now) _ _ (omega arith) (h .loop .inv .2) (d .four .ensures .1 .1),
-      search needs,
-      tab-more (inEights (blockMark (a .sf .now))) (h .loop .out) (h .loop .n) _ (omega arith) (h .loop .inv .4) (d .four .ensures .0),
+fill-by-requires : tie.Need-fill-by-requires
+fill-by-requires c κs =
+    let starts = c .before .before .before .before .before .before .before in
+    let places = starts .before in
+    let pairs = places .before in
+    let singles = pairs .before in
+    let table = singles .before in
+    let pre = table .before .before .before .pre in (
+      pre .0,
+      (
+        pre .1 .0,
+        (
+          pre .1 .1,
+          record {
+            eights = table .remainders .ensures;
+            ones = singles .columns .ensures;
+            twos = pairs .pairs .ensures;
+            beside = places .places .ensures;
+            index = starts .starts .ensures;
+          },
+        ),
+      ),
     )
 
-same-length : tie.Need-same-length Inv-loop μ-loop
-same-length c = let h = c .before in long h ∙ sym (h .before .before .before .pre .1 .0)
+same-length : tie.Need-same-length
+same-length c = search needs
 
-same-length-2 : tie.Need-same-length-2 Inv-loop μ-loop
-same-length-2 c = let h = c .before in long' h ∙ sym (h .before .before .before .pre .1 .1)
+same-length-2 : tie.Need-same-length-2
+same-length-2 c = search needs
 
-returns : tie.Need-returns Inv-loop μ-loop
-unfolding samplesOf marksOf
-returns c =
-    let h = c .before in
-    let s = h .before .before .before in
-    let a = s .args in
-    let e : 4 * h .loop .n ≡ 2048 = omega arith in (
-      tab-done (inEights (blockMark (a .sf .now))) (h .loop .out) 512 (h .loop .n) (omega arith) (omega arith) (omega arith) (h .loop .inv .4),
-      (h .loop .inv .1 ∙ rw e (filled-all _ 2048 (a .samples .now) (s .pre .1 .0)), h .loop .inv .2 ∙ rw e (filled-all _ 2048 (a .marks .now) (s .pre .1 .1))),
-    )
+returns : tie.Need-returns
+returns c = search needs
 
 pub fill-all-spec : {M : Type 1} → statement M
 fill-all-spec =
     tie.close
     (tie.spec
-    Inv-loop
-    μ-loop
-    loop-holds
-    mul-a
-    add-e
-    mul-four
-    sub-four
-    part-four-start
-    part-four-end
-    sub-four-2
-    part-four-start-2
-    part-four-end-2
-    four-requires
-    array-write-out
-    add-n
-    loop-less
-    loop-again
+    remainders-requires
+    columns-requires
+    pairs-requires
+    places-requires
+    starts-requires
+    fill-by-requires
     same-length
     same-length-2
     returns)

@@ -12,6 +12,7 @@ use mir.ValLaws.{toZ-ofZ}
 use Rattle.bits.proofs.Table.{filled, filled-zero, filled-set, filled-all, length-filled}
 use Rattle.block.specs.Read.{handedOn}
 use Rattle.block_codes.specs.Codes.{codesAt}
+use Rattle.words.specs.Words.{toldOf}
 use Rattle.tape.specs.Tape.{blockIn, quadIn}
 use Rattle.sound.specs.Sound.{soundAt, markWith, sampleAt, markAt, inRows}
 use Rattle.tape.specs.declared.blocks.Quad.{Quad}
@@ -22,11 +23,11 @@ use Rattle.sound.proofs.four.Statement.{statement}
 use Rattle.sound.proofs.four.Tie as tie
 
 abbrev Inv-loop : tie.InvT-loop
-Inv-loop sf n factors samples₀ marks₀ mark codes first j₀ samples marks j =
+Inv-loop table singles pairs places starts sf n factors samples₀ marks₀ mark codes first j₀ samples marks j =
     (j ≤ 4) × (samples ≡ filled (λ j. inRows (sampleAt sf factors) (4 * n + j)) j samples₀) × (marks ≡ filled (λ j. inRows (markAt sf factors) (4 * n + j)) j marks₀)
 
 abbrev μ-loop : tie.MeasureT-loop
-μ-loop sf n factors samples₀ marks₀ mark codes first j₀ samples marks j = 4 - j
+μ-loop table singles pairs places starts sf n factors samples₀ marks₀ mark codes first j₀ samples marks j = 4 - j
 
 -- from the loop's head back to the block that was read, and to the entry
 abbrev read-of : tie.At-loop Inv-loop μ-loop → tie.After-read-at Inv-loop μ-loop
@@ -46,7 +47,7 @@ module _ (c : tie.At-loop Inv-loop μ-loop) where
   long' : length (c .loop .marks) ≡ 4
   long' =
       let s = entry-of (read-of c) in
-      let n : length (s .args .marks .now) ≡ 4 = s .pre .1 .1 in
+      let n : length (s .args .marks .now) ≡ 4 = s .pre .1 .1 .0 in
       ap length (c .loop .inv .2) ∙ length-filled _ (c .loop .j) (s .args .marks .now) (omega arith) ∙ n
 
 cast-read-at : tie.Need-cast-read-at Inv-loop μ-loop
@@ -82,7 +83,7 @@ module _ (c : tie.After-read-at Inv-loop μ-loop) where
   given =
       let s = entry-of c in
       let there : s .args .n < 512 = s .pre .0 .1 in
-      c .read-at .ensures ∙ quad-given (s .args .sf .now) (s .args .n / 8) (s .args .n % 8) (s .pre .0 .0) (omega arith) (omega arith)
+      c .read-at .ensures ∙ quad-given _ _ _ _ _ (s .pre .1 .1 .1) (s .args .sf .now) (s .args .n / 8) (s .args .n % 8) (s .pre .0 .0) (omega arith) (omega arith)
 
 -- code j of the block that was read
 module _ (c : tie.After-sound-of-arg Inv-loop μ-loop) where
@@ -94,7 +95,7 @@ module _ (c : tie.After-sound-of-arg Inv-loop μ-loop) where
 
   code-is : toZ w16 (ofZ w16 (getD (read-of (c .before .before .before) .read-at .result .codes) (c .before .before .before .loop .j) (pos 0)))
       ≡ getD (codesAt block) (c .before .before .before .loop .j) (pos 0)
-  unfolding quadIn start block
+  unfolding quadIn toldOf start block
   code-is =
       let j = c .before .before .before .loop .j in
       toZ-ofZ w16 (getD (read-of (c .before .before .before) .read-at .result .codes) j (pos 0)) (record { sfits = c .sound-of-arg .given })
@@ -125,7 +126,7 @@ loop-less : tie.Need-loop-less Inv-loop μ-loop
 loop-less c = search needs
 
 loop-again : tie.Need-loop-again Inv-loop μ-loop
-unfolding quadIn start block
+unfolding quadIn toldOf start block
 loop-again c =
     let stored = c .before .before in
     let h = stored .before .before .before in
@@ -134,7 +135,7 @@ loop-again c =
     let a = s .args in
     let j = h .loop .j in
     let n : length (a .samples .now) ≡ 4 = s .pre .1 .0 in
-    let n' : length (a .marks .now) ≡ 4 = s .pre .1 .1 in
+    let n' : length (a .marks .now) ≡ 4 = s .pre .1 .1 .0 in
     let sample : c .before .sound-of .result ≡ inRows (sampleAt (a .sf .now) (a .factors .now)) (4 * a .n + j) =
     c .before .sound-of .ensures ∙ ap (λ (z : ℤ). soundAt z (getD (a .factors .now) (4 * (a .n % 8) + j) 0)) (code-is (c .before .before))
     ∙ sample-there (a .sf .now) (a .factors .now) (a .n) j (omega arith) in
@@ -153,7 +154,7 @@ same-length : tie.Need-same-length Inv-loop μ-loop
 same-length c = let h = c .before in long h ∙ sym (entry-of (read-of h) .pre .1 .0)
 
 same-length-2 : tie.Need-same-length-2 Inv-loop μ-loop
-same-length-2 c = let h = c .before in long' h ∙ sym (entry-of (read-of h) .pre .1 .1)
+same-length-2 c = let h = c .before in long' h ∙ sym (entry-of (read-of h) .pre .1 .1 .0)
 
 returns : tie.Need-returns Inv-loop μ-loop
 returns c =
@@ -161,7 +162,7 @@ returns c =
     let s = entry-of (read-of h) in
     let e : h .loop .j ≡ 4 = omega arith in (
       ap (λ (q : Quad). q .mark) (given (read-of h)) ∙ quad-mark (s .args .sf .now) (s .args .n / 8) (s .args .n % 8) (omega arith) (omega arith),
-      (h .loop .inv .1 ∙ rw e (filled-all _ 4 (s .args .samples .now) (s .pre .1 .0)), h .loop .inv .2 ∙ rw e (filled-all _ 4 (s .args .marks .now) (s .pre .1 .1))),
+      (h .loop .inv .1 ∙ rw e (filled-all _ 4 (s .args .samples .now) (s .pre .1 .0)), h .loop .inv .2 ∙ rw e (filled-all _ 4 (s .args .marks .now) (s .pre .1 .1 .0))),
     )
 
 pub four-spec : {M : Type 1} → statement M
