@@ -5,6 +5,7 @@ mod plain;
 mod proved;
 
 use plain::Plain;
+use std::io::{self, Write};
 use std::time::{Duration, Instant};
 
 const BYTES: usize = 5120;
@@ -75,6 +76,24 @@ impl Lists {
     }
 }
 
+/// Why there is no measurement.
+enum Fault {
+    /// What is to be said.
+    Said(String),
+    /// What was measured could not be written.
+    Unwritten(io::Error),
+}
+
+impl From<String> for Fault {
+    fn from(said: String) -> Self {
+        Self::Said(said)
+    }
+}
+
+fn write_line(line: &str) -> Result<(), Fault> {
+    writeln!(io::stdout(), "{line}").map_err(Fault::Unwritten)
+}
+
 type Superframes = Vec<[u8; BYTES]>;
 
 fn superframes(path: &str) -> Result<Superframes, String> {
@@ -119,13 +138,13 @@ fn time(reel: &Superframes, reader: Reader) -> Duration {
     start.elapsed()
 }
 
-fn measure(path: &str, plain: Reader, proved: Reader) -> Result<(), String> {
+fn measure(path: &str, plain: Reader, proved: Reader) -> Result<(), Fault> {
     let reel = superframes(path)?;
     if let Some(place) = differ(&reel, plain, proved) {
-        return Err(format!(
+        return Err(Fault::Said(format!(
             "{path}: superframe {} is taken otherwise by the two",
             place + 1
-        ));
+        )));
     }
     let mut best = [Duration::MAX; 2];
     for _ in 0..RUNS {
@@ -138,20 +157,19 @@ fn measure(path: &str, plain: Reader, proved: Reader) -> Result<(), String> {
         .unwrap_or_default()
         .to_string_lossy()
         .into_owned();
-    println!(
+    write_line(&format!(
         "{name:<12} {:>9.1} {:>9.1} {:>8.2} {:>10.0}",
         micros[0],
         micros[1],
         micros[0] / micros[1],
         1e6 / micros[1]
-    );
-    Ok(())
+    ))
 }
 
-fn run() -> Result<(), String> {
+fn run() -> Result<(), Fault> {
     let paths: Vec<String> = std::env::args().skip(1).collect();
     if paths.is_empty() {
-        return Err("speed: name the reels to measure on".into());
+        return Err(Fault::Said("name the reels to measure on".into()));
     }
     let plain = Plain::new();
     let plain = |beside: &mut Beside, bytes: &[u8; BYTES], lists: &mut Lists| {
@@ -163,22 +181,32 @@ fn run() -> Result<(), String> {
         time(&first, &plain);
         time(&first, &proved::take);
     }
-    println!("microseconds for a superframe; the fastest of {RUNS} runs of each, by turns; lists cleared once, before the first superframe");
-    println!(
+    write_line(&format!("microseconds for a superframe; the fastest of {RUNS} runs of each, by turns; lists cleared once, before the first superframe"))?;
+    write_line(&format!(
         "{:<12} {:>9} {:>9} {:>8} {:>10}",
         "reel", "plain", "proved", "ratio", "a second"
-    );
+    ))?;
     for path in &paths {
         measure(path, &plain, &proved::take)?;
     }
     Ok(())
 }
 
+/// A reader of the text that has had enough is told nothing; the status is the one that a shell gives for that.
+const CLOSED_PIPE: u8 = 141;
+
 fn main() -> std::process::ExitCode {
     match run() {
         Ok(()) => std::process::ExitCode::SUCCESS,
-        Err(why) => {
-            eprintln!("{why}");
+        Err(Fault::Unwritten(why)) if why.kind() == io::ErrorKind::BrokenPipe => CLOSED_PIPE.into(),
+        Err(Fault::Unwritten(why)) => {
+            eprintln!(
+                "speed: writing failed, so what stands on standard output is not whole: {why}"
+            );
+            std::process::ExitCode::FAILURE
+        }
+        Err(Fault::Said(why)) => {
+            eprintln!("speed: {why}");
             std::process::ExitCode::FAILURE
         }
     }

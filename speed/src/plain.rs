@@ -1,5 +1,5 @@
-//! A reader as one writes it at first: bit by bit, by the directive and docs/FORMAT.md, and without tables but for what each of the 63 places alone leaves.
-//! It does the work of taking a superframe: syncs, blocks, samples, marks, counts and the factors for the superframe after the next.
+//! A reader as one writes it at first: bit by bit, by the directive and docs/FORMAT.md, and without tables but for what each of the 63 places alone leaves and
+//! the 64 scale words. It does the work of taking a superframe: syncs, blocks, samples, marks, counts and the factors for the superframe after the next.
 
 // With iterators in their place it takes a third longer for two wrong places.
 #![allow(clippy::needless_range_loop)]
