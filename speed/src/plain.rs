@@ -1,5 +1,5 @@
 //! A reader as one writes it at first: bit by bit, by the directive and docs/FORMAT.md, and without tables but for what each of the 63 places alone leaves and
-//! the 64 scale words. It does the work of taking a superframe: syncs, blocks, samples, marks, counts and the factors for the superframe after the next.
+//! the 64 scale words sent three times. It does the work of taking a superframe: syncs, blocks, samples, marks, counts and the factors for the superframe after the next.
 
 // With iterators in their place it takes a third longer for two wrong places.
 #![allow(clippy::needless_range_loop)]
@@ -21,7 +21,8 @@ const SCALE_GENERATOR: u16 = 0b1101_0001;
 pub struct Plain {
     /// What each place of the 63 alone leaves.
     columns: [u32; PROTECTED],
-    scale_words: [u16; 64],
+    /// The 64 scale words, each sent three times: 42 bits.
+    sent: [u64; 64],
 }
 
 fn bit(frame: &[u8], place: usize) -> u8 {
@@ -102,14 +103,12 @@ impl Plain {
             word[place] = 1;
             *column = remainder(&word);
         }
-        let mut scale_words = [0; 64];
-        for (factors, word) in scale_words.iter_mut().enumerate() {
-            *word = scale_word(factors as u16);
+        let mut sent = [0; 64];
+        for (factors, copies) in sent.iter_mut().enumerate() {
+            let word = u64::from(scale_word(factors as u16));
+            *copies = word << 28 | word << 14 | word;
         }
-        Self {
-            columns,
-            scale_words,
-        }
+        Self { columns, sent }
     }
 
     /// Turns the wrong places of a block and answers its mark: 0 clean, 1 mended, 2 bad.
@@ -136,19 +135,24 @@ impl Plain {
         2
     }
 
-    /// The two factors in the 64 extra bits of a programme.
+    /// The two factors in the 64 extra bits of a programme: of the 64 scale words, sent three times, those of the only nearest.
     fn factors(&self, extra: &[u8; FRAMES]) -> [u8; 2] {
-        let mut majority = 0u16;
-        for place in 0..14 {
-            let copies = extra[place] + extra[place + 14] + extra[place + 28];
-            majority = majority << 1 | u16::from(copies >= 2);
+        let mut came = 0u64;
+        for place in 0..42 {
+            came = came << 1 | u64::from(extra[place]);
         }
-        for (factors, word) in self.scale_words.iter().enumerate() {
-            if (word ^ majority).count_ones() <= 2 {
-                return [factors as u8 / 8, factors as u8 % 8];
+        let mut fewest = u32::MAX;
+        let mut read = [MISSING; 2];
+        for (factors, copies) in self.sent.iter().enumerate() {
+            let places = (copies ^ came).count_ones();
+            if places < fewest {
+                fewest = places;
+                read = [factors as u8 / 8, factors as u8 % 8];
+            } else if places == fewest {
+                read = [MISSING; 2];
             }
         }
-        [MISSING; 2]
+        read
     }
 
     /// As `crate::proved::take` does, of lengths that fit and factors in their range.

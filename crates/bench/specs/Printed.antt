@@ -1,4 +1,4 @@
--- What document 01 prints beside its bench cases, in one table: syncs, the header's fields and limits, names, scale words within two places, and the
+-- What document 01, and document 02 where it amends it, prints beside the bench cases, in one table: syncs, the header's fields and limits, names, scale words with wrong bits, and the
 -- number of "Numbers given" that each function gives, in their order. The rows stand in `specs/Printed.antt` of the crate that they speak of.
 --     printed           THE TABLE, crate by crate
 use mathlib.Core.List.{List, [], _∷_}
@@ -8,6 +8,7 @@ use Rattle.programme.specs.Printed as Programme
 use Rattle.reel.specs.Printed as Reel
 use Rattle.sample.specs.Printed as Sample
 use Rattle.scale.specs.Printed as Scale
+use Rattle.nearest.specs.Printed as Nearest
 use Rattle.block.specs.Printed as Block
 use Rattle.block_codes.specs.Printed as Codes
 use Rattle.block_writer.specs.Printed as BlockWriter
@@ -23,6 +24,7 @@ printed =
     ∷ Reel.printedRows
     ∷ Sample.printedRows
     ∷ Scale.printedRows
+    ∷ Nearest.printedRows
     ∷ Block.printedRows
     ∷ Codes.printedRows
     ∷ BlockWriter.printedRows

@@ -1,3 +1,4 @@
 pub mod Carried
 pub mod Stands
 pub mod Unique
+pub mod Scales

@@ -17,7 +17,7 @@ use lib.Seq.{getD-drop}
 use Rattle.bits.specs.Bits.{bitsOf, byteAt}
 use Rattle.bits.proofs.Bits.{bitsOf-at}
 use Rattle.bits.proofs.Table.{length-tab, getD-tab}
-use Rattle.scale.specs.declared.Extra.{Extra}
+use Rattle.nearest.specs.declared.Extra.{Extra}
 use Rattle.frame.specs.Frame.{serviceIn}
 use Rattle.frame.specs.Read.{serviceRead, blockOf}
 use Rattle.tape.specs.Tape.{frameAt, blockIn}
@@ -52,7 +52,7 @@ module _ (sf : List ℕ) (q side : ℕ) (k : 1 ≤ q) (l : q ≤ 16) (m : 1 ≤ 
   unfolding programmesOf
   factor-is = getD-tab 32 (factorRead sf) channel 0 (omega arith)
 
-  number-is : entry (programmesOf sf .numbers) q 0 ≡ extraOf sf (q - 1) .number
+  pub number-is : entry (programmesOf sf .numbers) q 0 ≡ extraOf sf (q - 1) .number
   unfolding programmesOf
   number-is = getD-tab 16 (numberAt sf) (q - 1) 0 (omega arith)
 

@@ -2,10 +2,10 @@
 -- from 1 in the document.
 --     extraBits sf q        the 64 extra bits of programme q of the 16, as received, whatever the readings of their blocks: the first extra bit of
 --                           a block belongs to its first programme, the second to its second
---     extraOf sf q          what they read as: two factors or number 5, and the information word
+--     extraOf sf q          what they read as: two factors and in how many places their word differs, or number 5; and the information word
 --     factorOr n s          a factor that came with number n: missing, 8, where there is a number
 --     factorRead sf c       the factor of channel c that holds for the superframe after the next
---     programmesOf sf       the numbers and words of the 16 programmes and the factors of the 32 channels
+--     programmesOf sf       the numbers, places and words of the 16 programmes and the factors of the 32 channels
 --     programmesAnswer sf   what asking for them answers: of another length than 5,120, number 1 and no factor for every programme
 --     serviceBits sf        bit 12 of the 64 main frames of A
 --     sixOf bits, syncOf bits   of 64 service bits: 1 to 48 are six bytes, 49 to 64 the sync of the following six
@@ -18,8 +18,8 @@ use lib.Dec.{eqb}
 use lib.ListN.{length, getD, take, drop, replicate}
 use Rattle.bits.specs.Table.{tabulate, zeros}
 use Rattle.bits.specs.Bits.{bytesOf}
-use Rattle.scale.specs.Extra.{extraAnswer}
-use Rattle.scale.specs.declared.Extra.{Extra}
+use Rattle.nearest.specs.Extra.{extraAnswer}
+use Rattle.nearest.specs.declared.Extra.{Extra}
 use Rattle.frame.specs.Read.{serviceRead}
 use Rattle.frame.specs.declared.Letter.the-variants.{A}
 use Rattle.tape.specs.Tape.{frameAt, blockIn}
@@ -50,12 +50,20 @@ numberAt sf q = extraOf sf q .number
 abbrev pub wordAt : List ℕ → ℕ → ℕ
 wordAt sf q = extraOf sf q .word
 
+abbrev pub placesAt : List ℕ → ℕ → ℕ
+placesAt sf q = extraOf sf q .places
+
 unfoldable pub programmesOf : List ℕ → Programmes
 programmesOf sf =
-    record { numbers = tabulate 16 (numberAt sf); factors = tabulate 32 (factorRead sf); words = tabulate 16 (wordAt sf) }
+    record {
+      numbers = tabulate 16 (numberAt sf);
+      factors = tabulate 32 (factorRead sf);
+      places = tabulate 16 (placesAt sf);
+      words = tabulate 16 (wordAt sf);
+    }
 
 unfoldable pub refusedProgrammes : Programmes
-refusedProgrammes = record { numbers = replicate 16 1; factors = replicate 32 8; words = zeros 16 }
+refusedProgrammes = record { numbers = replicate 16 1; factors = replicate 32 8; places = zeros 16; words = zeros 16 }
 
 unfoldable pub programmesAnswer : List ℕ → Programmes
 programmesAnswer sf = cond (eqb (length sf) 5120) (programmesOf sf) refusedProgrammes

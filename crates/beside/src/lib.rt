@@ -2,14 +2,16 @@
 ghost use mathlib.Core.Path.{_≡_};
 ghost use Prim.Native.Nat.{_<_};
 ghost use Rattle.beside.specs.Beside.{extraBit, extraBits, extraOf, factorOr, programmesOf, programmesAnswer, serviceBits, sixOf, syncOf, sixAnswer};
-use scale::Extra;
+use nearest::Extra;
 
 // The extra bits of the 16 programmes as they read.
 pub struct Programmes {
-    // 0; 5: no scale word lies near enough; 1: the bytes are no superframe
+    // 0; 5: two or more scale words are equally near; 1: the bytes are no superframe
     pub numbers: [u8; 16],
     // of the 32 channels, for the superframe after the next; 8: missing
     pub factors: [u8; 32],
+    // of the 42 bits of the scale word, sent three times, those that the nearest one differs in
+    pub places: [u8; 16],
     // information words of 22 bits, the first bit the highest
     pub words: [u32; 16],
 }
@@ -54,7 +56,7 @@ fn extra_of(sf: &[u8], q: usize) -> Extra
     requires { ⌜ q < 16 ⌝ }
     ensures { λ r. ⌜ r ≡ extraOf (now (sf .entry)) q ⌝ }
 {
-    scale::read_extra(extra_bits(sf, q))
+    nearest::read_extra(extra_bits(sf, q))
 }
 
 // 8, missing, where a number came.
@@ -69,6 +71,7 @@ fn all_programmes(sf: &[u8]) -> Programmes
 {
     let mut numbers = [0u8; 16];
     let mut factors = [0u8; 32];
+    let mut places = [0u8; 16];
     let mut words = [0u32; 16];
     let mut q: usize = 0;
     while q < 16 {
@@ -79,12 +82,14 @@ fn all_programmes(sf: &[u8]) -> Programmes
         factors[2 * q] = left;
         let right = factor_or(number, extra.right);
         factors[2 * q + 1] = right;
+        places[q] = extra.places;
         words[q] = extra.word;
         q += 1;
     }
     Programmes {
         numbers,
         factors,
+        places,
         words,
     }
 }
@@ -97,6 +102,7 @@ pub fn programmes_of(sf: &[u8]) -> Programmes
         return Programmes {
             numbers: [1u8; 16],
             factors: [8u8; 32],
+            places: [0u8; 16],
             words: [0u32; 16],
         };
     }

@@ -4,8 +4,10 @@
 --     labelsLine complete labels        the 32 labels where they are handed out, else `none`
 --     pairText number factors           a programme's two factors, or two dashes where its scale word gave a number
 --     factorsLine numbers factors       those of the 16 programmes
+--     placesText number places          in how many of the 42 places its scale words differ, or a dash where they gave a number
+--     farLine numbers places            those of the 16 programmes
 --     wordsLine words                   the 16 information words, each of 22 bits in three bytes
---     besideText t                      all four lines of a superframe taken
+--     besideText t                      all five lines of a superframe taken
 --     informationLine t                 the words alone, or that the superframe was lost
 use Prim.Native.Nat.{ℕ}
 use mathlib.Core.Bool.{Bool, cond}
@@ -34,6 +36,12 @@ pairText number factors = blank ∷ cond (eqb number 0) (row factors) (letters "
 unfoldable pub factorsLine : List ℕ → List ℕ → List ℕ
 factorsLine numbers factors = letters "factors" ++ (inTurn 16 (λ q. pairText (getD numbers q 0) (part 2 q factors)) ++ letters "\n")
 
+unfoldable pub placesText : ℕ → ℕ → List ℕ
+placesText number places = cond (eqb number 0) (next places) (letters " -")
+
+unfoldable pub farLine : List ℕ → List ℕ → List ℕ
+farLine numbers places = letters "far" ++ (inTurn 16 (λ q. placesText (getD numbers q 0) (getD places q 0)) ++ letters "\n")
+
 unfoldable pub wordsLine : List ℕ → List ℕ
 wordsLine words = letters "words" ++ (inTurn 16 (λ q. nextHex (digits 256 3 (getD words q 0))) ++ letters "\n")
 
@@ -42,7 +50,8 @@ besideText t =
     serviceLine (t .position) (t .service) (t .six)
     ++ (labelsLine (t .complete) (t .labels)
     ++ (factorsLine (t .programmes .numbers) (t .programmes .factors)
-    ++ wordsLine (t .programmes .words)))
+    ++ (farLine (t .programmes .numbers) (t .programmes .places)
+    ++ wordsLine (t .programmes .words))))
 
 unfoldable pub informationLine : Taken → List ℕ
 informationLine t = cond (eqb (t .number) 0) (wordsLine (t .programmes .words)) (letters "lost\n")

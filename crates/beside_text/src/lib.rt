@@ -1,9 +1,9 @@
-// The text of what a superframe carries beside its sound, in a transcript (docs/TRANSCRIPT.md): four lines, put into a lent buffer.
+// The text of what a superframe carries beside its sound, in a transcript (docs/TRANSCRIPT.md): five lines, put into a lent buffer.
 ghost use mathlib.Core.Path.{_≡_};
 ghost use Rattle.bits.specs.Digits.{digits};
 ghost use Rattle.text.specs.Page.{page, putText};
 ghost use Rattle.text_rows.specs.Turns.{inTurn, part};
-ghost use Rattle.beside_text.specs.Lines.{nextHex, serviceLine, labelsLine, pairText, factorsLine, wordsLine, besideText, informationLine};
+ghost use Rattle.beside_text.specs.Lines.{nextHex, serviceLine, labelsLine, pairText, factorsLine, placesText, farLine, wordsLine, besideText, informationLine};
 use superframe::Taken;
 
 fn put_next_hex(out: &mut [u8], to: usize, bytes: &[u8]) -> usize
@@ -72,6 +72,27 @@ fn put_factors(out: &mut [u8], to: usize, numbers: [u8; 16], factors: [u8; 32]) 
     text::put(out, end, b'\n')
 }
 
+fn put_places(out: &mut [u8], to: usize, number: u8, places: u8) -> usize
+    ensures { λ r. ⌜ page (now (out .exit)) r ≡ putText (page (now (out .entry)) to) (placesText number places) ⌝ }
+{
+    if number != 0 {
+        return text::put_all(out, to, b" -");
+    }
+    text::put_next(out, to, places as u64)
+}
+
+fn put_far(out: &mut [u8], to: usize, numbers: [u8; 16], places: [u8; 16]) -> usize
+    ensures { λ r. ⌜ page (now (out .exit)) r ≡ putText (page (now (out .entry)) to) (farLine numbers places) ⌝ }
+{
+    let mut end = text::put_all(out, to, b"far");
+    let mut q: usize = 0;
+    while q < 16 {
+        end = put_places(out, end, numbers[q], places[q]);
+        q += 1;
+    }
+    text::put(out, end, b'\n')
+}
+
 fn put_word(out: &mut [u8], to: usize, word: u32) -> usize
     ensures { λ r. ⌜ page (now (out .exit)) r ≡ putText (page (now (out .entry)) to) (nextHex (digits 256 3 word)) ⌝ }
 {
@@ -114,9 +135,11 @@ pub fn put_beside(out: &mut [u8], to: usize, taken: Taken) -> usize
     let programmes = taken.programmes;
     let numbers = programmes.numbers;
     let factors = programmes.factors;
+    let places = programmes.places;
     let words = programmes.words;
     let service = put_service(out, to, taken.position, taken.service, &six);
     let labelled = put_labels(out, service, taken.complete, labels);
     let scaled = put_factors(out, labelled, numbers, factors);
-    put_words(out, scaled, words)
+    let measured = put_far(out, scaled, numbers, places);
+    put_words(out, measured, words)
 }

@@ -1,7 +1,7 @@
 // The calls on scale words and extra bits.
 use crate::pages::Page;
 use crate::words;
-use scale::Reading;
+use nearest::Reading;
 
 pub(crate) fn write(line: &[u8], at: usize, mut page: Page) -> Page {
     let left = words::read_small(line, at);
@@ -24,11 +24,12 @@ pub(crate) fn read(line: &[u8], at: usize, mut page: Page) -> Page {
     if !words::ended(line, next) {
         return page;
     }
-    match scale::read(bits) {
-        Reading::Factors(left, right) => {
+    match nearest::read(bits) {
+        Reading::Factors(left, right, places) => {
             page = page.put(b'0');
             page = page.next(left as u64);
-            page.next(right as u64)
+            page = page.next(right as u64);
+            page.next(places as u64)
         }
         Reading::Unreadable => page.put(b'5'),
         Reading::OutOfRange => page.put(b'2'),
@@ -41,7 +42,7 @@ pub(crate) fn extra(line: &[u8], at: usize, mut page: Page) -> Page {
     if !words::ended(line, next) {
         return page;
     }
-    let answer = scale::read_extra(bits);
+    let answer = nearest::read_extra(bits);
     page = page.number(answer.number);
     if answer.number == 2 {
         return page;
@@ -51,5 +52,6 @@ pub(crate) fn extra(line: &[u8], at: usize, mut page: Page) -> Page {
     }
     page = page.next(answer.left as u64);
     page = page.next(answer.right as u64);
+    page = page.next(answer.places as u64);
     page.next(answer.word as u64)
 }

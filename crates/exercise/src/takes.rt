@@ -51,12 +51,18 @@ fn put_numbers(page: Page, numbers: &[u8; 16]) -> Page {
     page.row(numbers)
 }
 
+fn put_places(page: Page, places: &[u8; 16]) -> Page {
+    page.hex(places)
+}
+
 fn put_programmes(mut page: Page, programmes: Programmes) -> Page {
     let numbers = programmes.numbers;
     let factors = programmes.factors;
+    let places = programmes.places;
     let words = programmes.words;
     page = put_numbers(page, &numbers);
     page = states::put_channels(page, &factors);
+    page = put_places(page, &places);
     page.next(sums::of_words(words))
 }
 

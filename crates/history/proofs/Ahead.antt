@@ -1,5 +1,5 @@
 -- The factors read in a superframe are those of the samples of the second one after it (document 01, "Scale words").
---     taken-next, lost-state     what one call hands back
+--     taken-next, taken-programmes, lost-state     what one call hands back
 --     silent            without factors every sample is 0 and every mark 3
 --     two-ahead         THE LEAD OF TWO, over three calls; the one between may be lost
 --     loss-next         after a loss the next superframe still has its factors
@@ -39,6 +39,10 @@ module _ (s : State) (k : Call s) where
   pub taken-next : Accepted k → (k .answer .next .next ≡ s .after) × (k .answer .next .after ≡ programmesOf (k .bytes) .factors)
   unfolding takeAnswer besideWith
   taken-next z = (ap (λ (r : Taken). r .next .next) (answer-is s k 0 z), ap (λ (r : Taken). r .next .after) (answer-is s k 0 z))
+
+  pub taken-programmes : Accepted k → k .answer .programmes ≡ programmesOf (k .bytes)
+  unfolding takeAnswer besideWith
+  taken-programmes z = ap (λ (r : Taken). r .programmes) (answer-is s k 0 z)
 
   pub lost-state : LostIn k → k .answer .next ≡ lostState s
   unfolding takeAnswer refusedWith

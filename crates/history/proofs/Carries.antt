@@ -1,12 +1,11 @@
 -- What any superframe can carry beside its sound, whatever its bytes.
---     extra-bits-below, sync-below      extra bits and the bits of a sync are bits
+--     sync-below            the bits of a sync are bits
 --     scale-small           a scale word reads as two factors from 0 to 7, or as number 5
 --     number-small          so a programme's number is 0 or 5
 --     factor-small          and the factor of a channel 0 to 8
 -- Assumes nothing.
 use mathlib.Core.Path.{_≡_, refl, _∙_}
 use mathlib.Core.Logic.{_⊎_, inl, inr, ⊎-elim}
-use mathlib.Core.Bool.{true}
 use mathlib.Core.List.{List, [], _∷_}
 use Prim.Native.Nat.{ℕ, _+_, _/_, _%_, _<_, _≤_}
 use native.Mathlib.Omega.{arith}
@@ -14,25 +13,18 @@ use lib.Dec.{eqb}
 use lib.ListN.{getD, take}
 use Rattle.bits.specs.Answer.{Answer, accepted}
 use Rattle.bits.specs.Digits.{Below}
-use Rattle.bits.specs.Bits.{areBits}
 use Rattle.bits.proofs.Tests.{either-way}
 use Rattle.bits.proofs.Digits.{below-drop, below-tab}
-use Rattle.bits.proofs.Bits.{bits-below, below-bits, bit-below, bitAt-below}
-use Rattle.scale.specs.Reading.{majority, nearest, readScale}
-use Rattle.scale.proofs.Majority.{length-majority}
-use Rattle.scale.proofs.Nearest.{pair-within, nearest-hit, nearest-miss, near-or-none}
-use Rattle.scale.proofs.Scale.{extra-reading}
+use Rattle.bits.proofs.Bits.{bitAt-below}
+use Rattle.nearest.specs.Reading.{readScale}
+use Rattle.nearest.proofs.Fewest.{single-read, shared-read}
+use Rattle.nearest.proofs.Search.{single-or-shared}
+use Rattle.nearest.proofs.ExtraBits.{extra-reading}
 use Rattle.frame.specs.Frame.{serviceIn}
 use Rattle.frame.specs.Read.{serviceRead}
-use Rattle.tape.specs.Tape.{frameAt, blockIn}
-use Rattle.tape.proofs.Tape.{block-bits}
-use Rattle.beside.specs.Beside.{extraBit, extraBits, extraOf, factorOr, sideOf, factorRead, serviceBit, serviceBits, syncOf, sixAndSync}
-
-pub extra-bits-below : (sf : List ℕ) (q : ℕ) → areBits (extraBits sf q) ≡ true
-unfolding extraBits extraBit
-extra-bits-below sf q =
-    below-bits (extraBits sf q)
-    (below-tab 2 64 (extraBit sf q) (λ f l. bit-below (blockIn sf f (q / 2)) (75 + q % 2) (bits-below (blockIn sf f (q / 2)) (block-bits sf f (q / 2)))))
+use Rattle.tape.specs.Tape.{frameAt}
+use Rattle.beside.proofs.Scales.{extra-bits-below}
+use Rattle.beside.specs.Beside.{extraBits, extraOf, factorOr, sideOf, factorRead, serviceBit, serviceBits, syncOf, sixAndSync}
 
 pub sync-below : (sf : List ℕ) → Below 2 (sixAndSync sf .sync)
 unfolding sixAndSync syncOf serviceBits serviceBit serviceRead serviceIn
@@ -44,16 +36,11 @@ pub record Small (a : Answer ℕ) : Type 0 where
   pub right : getD (a .values) 1 0 ≤ 7
 
 pub scale-small : (bits : List ℕ) → Small (readScale bits)
-unfolding readScale
 scale-small bits =
     ⊎-elim
-    (λ n.
-    let near = n .within in
-    let e : nearest (majority bits) ≡ accepted (n .pair / 8 ∷ n .pair % 8 ∷ []) =
-    nearest-hit (majority bits) (length-majority bits) (n .pair) (n .within) (n .near) ∙ pair-within (n .pair) (n .within) in
-    rw e (record { number = inl refl; left = omega (arith, near); right = omega arith }))
-    (λ none. rw (nearest-miss (majority bits) none) (record { number = inr refl; left = omega arith; right = omega arith }))
-    (near-or-none (majority bits))
+    (λ n. let within = n .1 .within in rw (single-read bits (n .0) (n .1)) (record { number = inl refl; left = omega arith; right = omega arith }))
+    (λ t. rw (shared-read bits t) (record { number = inr refl; left = omega arith; right = omega arith }))
+    (single-or-shared bits)
 
 module _ (sf : List ℕ) (q : ℕ) where
   read : Small (readScale (take 42 (extraBits sf q)))

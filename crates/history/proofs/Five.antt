@@ -2,7 +2,7 @@
 --     five-silent           both channels of the programme have no factor in the second superframe after it: every sample 0, every mark 3
 --     step-alike            a superframe taken or lost by two states that are alike leaves two that are
 --     first-alike           THE SUPERFRAME ITSELF: two that differ in the programme's 42 scale bits alone give the same samples and marks, and the same answer but
---                           for the programme's number and factors
+--                           for the programme's number, factors and places
 --     second-alike, third-alike     the next one answers the same and sounds the same; the one after it answers the same and sounds the same but for the programme;
 --                           then the two states are one
 -- Assumes nothing.
@@ -27,11 +27,12 @@ use Rattle.tape.specs.Document.{entry, channelOf}
 use Rattle.sound.specs.Document.{placeIn}
 use Rattle.sound.specs.Sound.{soundAt, markWith, codeIn, sampleAt, markAt, inRows, samplesOf, marksOf, lengthsFit}
 use Rattle.sound.proofs.Stands.{sample-is, mark-is, channel-stands}
-use Rattle.scale.specs.declared.Extra.{Extra}
-use Rattle.scale.specs.Extra.{extraAnswer}
-use Rattle.scale.proofs.Scale.{extra-word}
-use Rattle.beside.specs.Beside.{extraBits, extraOf, factorOr, sideOf, factorRead, numberAt, wordAt, programmesOf, sixAndSync}
+use Rattle.nearest.specs.declared.Extra.{Extra}
+use Rattle.nearest.specs.Extra.{extraAnswer}
+use Rattle.nearest.proofs.ExtraBits.{extra-word}
+use Rattle.beside.specs.Beside.{extraBits, extraOf, factorOr, sideOf, factorRead, numberAt, placesAt, wordAt, programmesOf, sixAndSync}
 use Rattle.beside.specs.Document.{OnlyScale}
+use Rattle.beside.proofs.Scales.{extra-bits-below}
 use Rattle.beside.proofs.Stands.{five-missing}
 use Rattle.superframe.specs.State.{serviceOf, joinedState, stateInRange}
 use Rattle.superframe.specs.Take.{takeNumber, besideWith, refusedWith, takeAnswer}
@@ -40,25 +41,20 @@ use Rattle.superframe.specs.declared.taking.Taken.{Taken}
 use Rattle.history.specs.Calls.{Call, Accepted, LostIn, HeardAt}
 use Rattle.history.specs.Alike.{OffProgramme, Alike, LentAlike, SameAnswer, AnswerBut, SoundBut}
 use Rattle.history.proofs.OneScale as one
-use Rattle.history.proofs.Carries.{extra-bits-below}
 use Rattle.history.proofs.Ranges.{take-in-range}
 use Rattle.history.proofs.Answers.{numbered, answer-is, accepted-in-range}
-use Rattle.history.proofs.Ahead.{heard, two-ahead}
+use Rattle.history.proofs.Ahead.{heard, taken-programmes, two-ahead}
 use Rattle.history.proofs.Served.{lost-range}
 
 -- ---- silence
 module _ (s : State) (first : Call s) (second : Call (first .answer .next)) (third : Call (second .answer .next))
     (a : Accepted first) (b : Accepted second ⊎ LostIn second) (c : Accepted third) where
-  read-as : first .answer .programmes ≡ programmesOf (first .bytes)
-  unfolding takeAnswer besideWith
-  read-as = ap (λ (r : Taken). r .programmes) (answer-is s first 0 a)
-
   pub five-silent : (q side f : ℕ) → 1 ≤ q → q ≤ 16 → 1 ≤ side → side ≤ 2 → 1 ≤ f → f ≤ 64 → entry (first .answer .programmes .numbers) q 0 ≡ 5
       → (entry (third .samples) (placeIn f (channelOf q side)) (pos 0) ≡ pos 0) × (entry (third .marks) (placeIn f (channelOf q side)) 0 ≡ 3)
   five-silent q side f k l m u v w e =
       let factors = programmesOf (first .bytes) .factors in
       let none : entry factors (channelOf q side) 0 ≡ 8 =
-      five-missing (first .bytes) q side k l m u (λ z. let five = rw read-as at e in omega arith) in
+      five-missing (first .bytes) q side k l m u (λ z. let five = rw (taken-programmes s first a) at e in omega arith) in
       let ch = channelOf q side - 1 in
       let at : placeIn f (channelOf q side) - 1 ≡ 32 * (f - 1) + ch = omega arith in
       let h = two-ahead s first second third a b c in
@@ -197,6 +193,11 @@ module _ (q : ℕ) (low : 1 ≤ q) (high : q ≤ 16) (sf sf' : List ℕ) (d : On
   numbers-same p l n =
       getD-tab 16 (numberAt sf) p 0 l ∙ ap (λ (x : Extra). x .number) (other-same p l n) ∙ sym (getD-tab 16 (numberAt sf') p 0 l)
 
+  places-same : (p : ℕ) → p < 16 → p ≢ q - 1 → getD (programmesOf sf .places) p 0 ≡ getD (programmesOf sf' .places) p 0
+  unfolding programmesOf
+  places-same p l n =
+      getD-tab 16 (placesAt sf) p 0 l ∙ ap (λ (x : Extra). x .places) (other-same p l n) ∙ sym (getD-tab 16 (placesAt sf') p 0 l)
+
   factors-off : OffProgramme q (programmesOf sf .factors) (programmesOf sf' .factors)
   unfolding programmesOf factorRead
   factors-off =
@@ -218,6 +219,7 @@ module _ (q : ℕ) (low : 1 ≤ q) (high : q ≤ 16) (sf sf' : List ℕ) (d : On
         words = words-same;
         numbers = numbers-same;
         factors = factors-off;
+        places = places-same;
         six = rw six;
         position = rw six;
         service = rw six;

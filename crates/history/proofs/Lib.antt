@@ -4,6 +4,7 @@ pub mod Ranges
 pub mod Answers
 pub mod Labels
 pub mod Ahead
+pub mod Scales
 pub mod Served
 pub mod Entries
 pub mod Same

@@ -21,7 +21,7 @@ use Rattle.reading.specs.Search.{reading}
 use Rattle.block.specs.Read.{said, ordinary, protected, handedOn}
 use Rattle.block.specs.Demand.{IsBlock}
 use Rattle.block_codes.specs.Codes.{codeAt}
-use Rattle.scale.specs.Extra.{information}
+use Rattle.nearest.specs.Extra.{information}
 use Rattle.frame.specs.Frame.{syncWord, serviceIn, placeOf, deinterleave, Belongs}
 use Rattle.frame.specs.Read.{wrongSync, mostWrong, serviceRead, blockOf}
 use Rattle.frame.specs.declared.Letter.{Letter}

@@ -3,7 +3,7 @@
 --     Alike P R s s'            two states, their first sets related by P and their second by R; all else is the same
 --     LentAlike k k'            two calls that were lent the same lists
 --     SameAnswer r r'           two answers that differ, if at all, in their next states
---     AnswerBut q r r'          two answers that differ in the number and the factors of programme q, and in their next states
+--     AnswerBut q r r'          two answers that differ in the number, the factors and the places of programme q, and in their next states
 --     SoundBut q k k'           two calls that leave the same samples and marks, but for the two channels of programme q
 use Prim.Native.Nat.{ℕ, _+_, _-_, _*_, _/_, _<_}
 use mathlib.Core.Path.{_≡_}
@@ -47,6 +47,7 @@ pub record AnswerBut (q : ℕ) (r r' : Taken) : Type 0 where
   pub words : r .programmes .words ≡ r' .programmes .words
   pub numbers : (p : ℕ) → p < 16 → p ≢ q - 1 → getD (r .programmes .numbers) p 0 ≡ getD (r' .programmes .numbers) p 0
   pub factors : OffProgramme q (r .programmes .factors) (r' .programmes .factors)
+  pub places : (p : ℕ) → p < 16 → p ≢ q - 1 → getD (r .programmes .places) p 0 ≡ getD (r' .programmes .places) p 0
   pub six : r .six ≡ r' .six
   pub position : r .position ≡ r' .position
   pub service : r .service ≡ r' .service

@@ -1,7 +1,4 @@
 pub mod Word
-pub mod Majority
-pub mod Nearest
-pub mod Scale
 pub mod Bench
 pub mod Unique
 pub mod Printed

@@ -1,4 +1,2 @@
 pub mod Word
-pub mod Reading
-pub mod Extra
 pub mod Printed

@@ -52,7 +52,7 @@ besideWith s sf w b =
     }
 
 unfoldable pub noProgrammes : Programmes
-noProgrammes = record { numbers = zeros 16; factors = zeros 32; words = zeros 16 }
+noProgrammes = record { numbers = zeros 16; factors = zeros 32; places = zeros 16; words = zeros 16 }
 
 unfoldable pub refusedWith : ℕ → State → Taken
 refusedWith n s =

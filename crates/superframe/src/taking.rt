@@ -36,6 +36,7 @@ fn refused(number: u8, next: State) -> Taken
     let programmes = Programmes {
         numbers: [0u8; 16],
         factors: [0u8; 32],
+        places: [0u8; 16],
         words: [0u32; 16],
     };
     Taken {

@@ -1,11 +1,12 @@
 -- Laws of texts put in turn.
 --     turn-more         one text more, as a loop puts it
+--     turn-line         a line: a word, so many texts, an end
 --     part-cut          a part as the code cuts it, from its first place to behind its last
 --     length-turns      texts of at most so many characters each
 --     length-part       a part has at most so many elements
 -- Assumes nothing.
-use mathlib.Core.Path.{_≡_, ap}
-use mathlib.Core.List.{List}
+use mathlib.Core.Path.{_≡_, ap, _∙_}
+use mathlib.Core.List.{List, _++_}
 use Prim.Native.Nat.{ℕ, zero, suc, _+_, _*_, _-_, _≤_, _<_}
 use native.Mathlib.Nat.{suc-mul, min-le-left}
 use native.Mathlib.Numerals.{add-one}
@@ -20,6 +21,12 @@ pub turn-more :
     (start p q : Page) (f : ℕ → List ℕ) (i : ℕ) → p ≡ putText start (inTurn i f) → q ≡ putText p (f i) → q ≡ putText start (inTurn (i + 1) f)
 unfolding inTurn
 turn-more start p q f i e g = rw (add-one i) (put-then start p q (inTurn i f) (f i) e g)
+
+pub turn-line :
+    (start p q r : Page) (word end : List ℕ) (f : ℕ → List ℕ) (i n : ℕ) → i ≡ n
+    → p ≡ putText start word → q ≡ putText p (inTurn i f) → r ≡ putText q end → r ≡ putText start (word ++ (inTurn n f ++ end))
+turn-line start p q r word end f i n same e g h =
+    put-then start p r word (inTurn n f ++ end) e (put-then p q r (inTurn n f) end (g ∙ ap (λ (k : ℕ). putText p (inTurn k f)) same) h)
 
 pub part-cut : {A : Type 0} (n i : ℕ) (l : List A) → take (n * i + n - n * i) (drop (n * i) l) ≡ part n i l
 part-cut n i l = ap (λ (k : ℕ). take k (drop (n * i) l)) (width (n * i) n)

@@ -9,7 +9,7 @@ struct Written {
     error: u32,
 }
 
-// Superframe k, and the state that the next one is taken with. Its lines have at most 18,548 characters (`superframe-whole` in transcript_text).
+// Superframe k, and the state that the next one is taken with. Its lines have at most 18,616 characters (`superframe-whole` in transcript_text).
 fn write_superframe(k: u32, state: State, bytes: &[u8; 5120]) -> Written {
     let mut samples = [0i16; 2048];
     let mut marks = [0u8; 2048];

@@ -13,7 +13,7 @@ use Rattle.text_rows.specs.Turns.{inTurn}
 use Rattle.tally.specs.Totals.{sumOf}
 use Rattle.superframe.specs.Take.{refusedWith}
 use Rattle.superframe.specs.declared.state.State.{State}
-use Rattle.beside_text.specs.Lines.{nextHex, serviceLine, labelsLine, pairText}
+use Rattle.beside_text.specs.Lines.{nextHex, serviceLine, labelsLine, pairText, placesText}
 use Rattle.frames_text.specs.Frames.{marksLine, samplesLine}
 use Rattle.transcript_text.specs.Superframe.{headLine, syncLine, blocksLine, superframeText}
 
@@ -33,6 +33,10 @@ factors-case :
     pairText 0 (2 ∷ 6 ∷ []) ++ (pairText 0 (5 ∷ 5 ∷ []) ++ (pairText 5 (8 ∷ 8 ∷ []) ++ pairText 0 (4 ∷ 1 ∷ []))) ≡ letters " 26 55 -- 41"
 unfolding pairText letters spelled
 factors-case = refl
+
+far-case : placesText 0 0 ++ (placesText 0 12 ++ (placesText 5 0 ++ placesText 0 7)) ≡ letters " 0 12 - 7"
+unfolding placesText letters decimalIn
+far-case = refl
 
 words-case : nextHex (digits 256 3 3993967) ++ nextHex (digits 256 3 364506) ≡ letters " 3cf16f 058fda"
 unfolding letters spelled digits

@@ -1,6 +1,6 @@
 -- How long the lines of a superframe are.
 --     Held t                what the machine's types say of an answer: small numbers are bytes, and there are six service bytes and three times eight counts
---     superframe-fits       the lines have at most 18,548 characters
+--     superframe-fits       the lines have at most 18,616 characters
 --     superframe-whole      so a buffer of 20,480 bytes holds them from its first byte on: they are not refused, and stand there
 -- Assumes nothing.
 use mathlib.Core.Path.{_≡_, ap, _∙_}
@@ -71,7 +71,7 @@ length-blocks b clean mended bad =
     ) (omega (arith, c, m, w))
 
 pub superframe-fits :
-    (k : ℕ) (t : Taken) (samples : List ℤ) (marks : List ℕ) → k < 2 ^ 32 → Held t → Sixteen samples → length (superframeText k t samples marks) ≤ 18548
+    (k : ℕ) (t : Taken) (samples : List ℤ) (marks : List ℕ) → k < 2 ^ 32 → Held t → Sixteen samples → length (superframeText k t samples marks) ≤ 18616
 unfolding superframeText
 superframe-fits k t samples marks h held small =
     let a = length-head k (t .number) h (held .number) in

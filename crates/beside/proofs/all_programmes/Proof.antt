@@ -5,26 +5,27 @@ use native.Mathlib.Omega.{arith}
 use lib.ListN.{length, take, set, length-set}
 use Rattle.bits.specs.Table.{tabulate}
 use Rattle.bits.proofs.Table.{tab-more, tab-done}
-use Rattle.scale.specs.declared.Extra.{Extra}
-use Rattle.beside.specs.Beside.{factorOr, factorRead, numberAt, wordAt, programmesOf}
+use Rattle.nearest.specs.declared.Extra.{Extra}
+use Rattle.beside.specs.Beside.{factorOr, factorRead, numberAt, placesAt, wordAt, programmesOf}
 use Rattle.beside.proofs.Carried.{left-there, right-there}
 use borrow.Author.Needs.{needs}
 use Rattle.beside.proofs.all_programmes.Statement.{statement}
 use Rattle.beside.proofs.all_programmes.Tie as tie
 
 abbrev Inv-loop : tie.InvT-loop
-Inv-loop sf numbers₀ factors₀ words₀ q₀ numbers factors words q =
+Inv-loop sf numbers₀ factors₀ places₀ words₀ q₀ numbers factors places words q =
     (q ≤ 16)
     × (length numbers ≡ 16) × (take q numbers ≡ tabulate q (numberAt sf))
     × (length factors ≡ 32) × (take (2 * q) factors ≡ tabulate (2 * q) (factorRead sf))
+    × (length places ≡ 16) × (take q places ≡ tabulate q (placesAt sf))
     × (length words ≡ 16) × (take q words ≡ tabulate q (wordAt sf))
 
 abbrev μ-loop : tie.MeasureT-loop
-μ-loop sf numbers₀ factors₀ words₀ q₀ numbers factors words q = 16 - q
+μ-loop sf numbers₀ factors₀ places₀ words₀ q₀ numbers factors places words q = 16 - q
 
 loop-holds : tie.Need-loop-holds Inv-loop μ-loop
 unfolding tabulate
-loop-holds c = (search needs, search needs, refl, search needs, refl, search needs, refl)
+loop-holds c = (search needs, search needs, refl, search needs, refl, search needs, refl, search needs, refl)
 
 extra-of-requires : tie.Need-extra-of-requires Inv-loop μ-loop
 extra-of-requires c κs = search needs
@@ -52,6 +53,9 @@ add-factors c = search needs
 
 array-write-factors-2 : tie.Need-array-write-factors-2 Inv-loop μ-loop
 array-write-factors-2 c = search needs
+
+array-write-places : tie.Need-array-write-places Inv-loop μ-loop
+array-write-places c = search needs
 
 mul-words : tie.Need-mul-words Inv-loop μ-loop
 mul-words c = search needs
@@ -86,7 +90,9 @@ loop-again c =
       search needs,
       rw next two,
       search needs,
-      tab-more (wordAt sf) (l .words) (l .q) _ (omega arith) (l .inv .6) (ap (λ (x : Extra). x .word) x),
+      tab-more (placesAt sf) (l .places) (l .q) _ (omega arith) (l .inv .6) (ap (λ (x : Extra). x .places) x),
+      search needs,
+      tab-more (wordAt sf) (l .words) (l .q) _ (omega arith) (l .inv .8) (ap (λ (x : Extra). x .word) x),
     )
 
 returns : tie.Need-returns Inv-loop μ-loop
@@ -96,8 +102,9 @@ returns c =
     let sf = c .before .before .before .args .sf .now in
     let numbers = tab-done (numberAt sf) (l .numbers) 16 (l .q) (omega arith) (omega arith) (omega arith) (l .inv .2) in
     let factors = tab-done (factorRead sf) (l .factors) 32 (2 * l .q) (omega arith) (omega arith) (omega arith) (l .inv .4) in
-    let words = tab-done (wordAt sf) (l .words) 16 (l .q) (omega arith) (omega arith) (omega arith) (l .inv .6) in
-    rw (numbers, factors, words)
+    let places = tab-done (placesAt sf) (l .places) 16 (l .q) (omega arith) (omega arith) (omega arith) (l .inv .6) in
+    let words = tab-done (wordAt sf) (l .words) 16 (l .q) (omega arith) (omega arith) (omega arith) (l .inv .8) in
+    rw (numbers, factors, places, words)
 
 pub all-programmes-spec : {M : Type 1} → statement M
 all-programmes-spec =
@@ -115,6 +122,7 @@ all-programmes-spec =
     mul-factors-2
     add-factors
     array-write-factors-2
+    array-write-places
     mul-words
     array-write-words
     add-q

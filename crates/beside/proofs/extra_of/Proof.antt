@@ -1,6 +1,6 @@
 -- `beside::extra_of` meets its contract. Assumes nothing.
 use mathlib.Core.Path.{ap, _∙_}
-use Rattle.scale.specs.Extra.{extraAnswer}
+use Rattle.nearest.specs.Extra.{extraAnswer}
 use Rattle.beside.specs.Beside.{extraOf}
 use borrow.Author.Needs.{needs}
 use Rattle.beside.proofs.extra_of.Statement.{statement}

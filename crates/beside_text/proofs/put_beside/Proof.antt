@@ -17,6 +17,9 @@ put-labels-requires c κs = search needs
 put-factors-requires : tie.Need-put-factors-requires
 put-factors-requires c κs = search needs
 
+put-far-requires : tie.Need-put-far-requires
+put-far-requires c κs = search needs
+
 put-words-requires : tie.Need-put-words-requires
 put-words-requires c κs = search needs
 
@@ -27,12 +30,13 @@ returns : tie.Need-returns
 unfolding besideText
 returns c =
     let words = c .before .before in
-    let factors = words .before .before .before .before in
+    let far = words .before .before .before .before in
+    let factors = far .before .before .before .before in
     let labels = factors .before .before .before .before in
     let service = labels .before .before .before .before in
-    let taken = service .before .before .before .before .before .before .before .before .before .before .args .taken in
+    let taken = service .before .before .before .before .before .before .before .before .before .before .before .args .taken in
     put-then _ _ _ (serviceLine (taken .position) (taken .service) (taken .six)) _ (service .put-service .ensures)
-    (put-then _ _ _ _ _ (labels .put-labels .ensures) (put-then _ _ _ _ _ (factors .put-factors .ensures) (words .put-words .ensures)))
+    (put-then _ _ _ _ _ (labels .put-labels .ensures) (put-then _ _ _ _ _ (factors .put-factors .ensures) (put-then _ _ _ _ _ (far .put-far .ensures) (words .put-words .ensures))))
 
 pub put-beside-spec : {M : Type 1} → statement M
 put-beside-spec =
@@ -42,6 +46,7 @@ put-beside-spec =
     put-service-requires
     put-labels-requires
     put-factors-requires
+    put-far-requires
     put-words-requires
     same-length
     returns)

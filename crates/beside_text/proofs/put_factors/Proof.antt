@@ -6,10 +6,9 @@ use native.Mathlib.Omega.{arith}
 use lib.ListN.{length, getD}
 use Rattle.bits.specs.Letters.{letters}
 use Rattle.text.specs.Page.{page, putText}
-use Rattle.text.proofs.Pages.{put-then}
 use Rattle.text_rows.specs.Turns.{inTurn, part}
 use Rattle.beside_text.specs.Lines.{pairText, factorsLine}
-use Rattle.text_rows.proofs.Turns.{turn-more, part-cut}
+use Rattle.text_rows.proofs.Turns.{turn-more, turn-line, part-cut}
 use borrow.Author.Needs.{needs}
 use Rattle.beside_text.proofs.put_factors.Statement.{statement}
 use Rattle.beside_text.proofs.put_factors.Tie as tie
@@ -81,12 +80,8 @@ unfolding factorsLine letters
 returns c =
     let l = c .before .before .before .before .before .loop in
     let word = c .before .before .before .before .before .before .before .before .put-all in
-    let start = c .before .before .before .before .before .before .before .before .before .before .before .before .args in
     let all : l .q ≡ 16 = omega arith in
-    put-then _ _ _ _ _ (word .ensures)
-    (put-then _ _ _ _ _
-    (l .inv .2 ∙ ap (λ (n : ℕ). putText (page (word .last .0) (word .result)) (inTurn n (λ i. pairText (getD (start .t3) i 0) (part 2 i (start .t4))))) all)
-    (c .before .before .put .ensures))
+    turn-line _ _ _ _ _ _ _ _ 16 all (word .ensures) (l .inv .2) (c .before .before .put .ensures)
 
 pub put-factors-spec : {M : Type 1} → statement M
 put-factors-spec =

@@ -1,15 +1,14 @@
 -- `beside_text::put_words` meets its contract. Assumes nothing.
-use Prim.Native.Nat.{ℕ, _-_, _≤_}
-use mathlib.Core.Path.{_≡_, refl, ap, _∙_}
+use Prim.Native.Nat.{_-_, _≤_}
+use mathlib.Core.Path.{_≡_, refl}
 use native.Mathlib.Omega.{arith}
 use lib.ListN.{length, getD}
 use Rattle.bits.specs.Digits.{digits}
 use Rattle.bits.specs.Letters.{letters}
-use Rattle.text.proofs.Pages.{put-then}
 use Rattle.text.specs.Page.{page, putText}
 use Rattle.text_rows.specs.Turns.{inTurn}
 use Rattle.beside_text.specs.Lines.{nextHex, wordsLine}
-use Rattle.text_rows.proofs.Turns.{turn-more}
+use Rattle.text_rows.proofs.Turns.{turn-more, turn-line}
 use borrow.Author.Needs.{needs}
 use Rattle.beside_text.proofs.put_words.Statement.{statement}
 use Rattle.beside_text.proofs.put_words.Tie as tie
@@ -68,10 +67,7 @@ returns c =
     let l = c .before .before .before .before .before .loop in
     let word = c .before .before .before .before .before .before .before .before .put-all in
     let all : l .q ≡ 16 = omega arith in
-    put-then _ _ _ _ _ (word .ensures)
-    (put-then _ _ _ _ _
-    (l .inv .2 ∙ ap (λ (n : ℕ). putText (page (word .last .0) (word .result)) (inTurn n (λ i. nextHex (digits 256 3 (getD (c .before .before .before .before .before .before .before .before .before .before .before .before .args .t3) i 0))))) all)
-    (c .before .before .put .ensures))
+    turn-line _ _ _ _ _ _ _ _ 16 all (word .ensures) (l .inv .2) (c .before .before .put .ensures)
 
 pub put-words-spec : {M : Type 1} → statement M
 put-words-spec =
