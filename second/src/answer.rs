@@ -8,7 +8,7 @@ use crate::programme::{self, Programme};
 use crate::recipe::Recipe;
 use crate::reel;
 use crate::sample;
-use crate::scale;
+use crate::scale::{self, Extra, Near};
 use crate::service::{Heard, Service, Sync, CHANNELS, CHARACTERS};
 use crate::superframe::{self, State};
 use crate::taking::{self, Lengths, MOST_LENT};
@@ -87,13 +87,13 @@ pub fn answer(line: &str) -> Option<String> {
             one(scale::write(factors).map(|word| text::digits(&word)))
         }
         "sread" => {
-            let factors = scale::read(&words.digits()?);
-            one(factors.map(|(left, right)| format!("{left} {right}")))
+            let near = scale::read(&words.digits()?);
+            one(near.map(near_text))
         }
         "sextra" => match scale::read_extra(&words.digits()?) {
-            Ok(extra) => match extra.factors {
-                Some((left, right)) => format!("0 {left} {right} {}", extra.information),
-                None => format!("{} {}", Refusal::ScaleWord.number(), extra.information),
+            Ok(Extra { near, information }) => match near {
+                Some(near) => format!("0 {} {information}", near_text(near)),
+                None => format!("{} {information}", Refusal::ScaleWord.number()),
             },
             Err(refusal) => refusal.number().to_string(),
         },
@@ -198,6 +198,11 @@ pub fn state_text(state: &State) -> String {
         labels.as_flattened(),
     ];
     text::spaced(fields.map(text::hex))
+}
+
+fn near_text(near: Near) -> String {
+    let (left, right) = near.factors;
+    format!("{left} {right} {}", near.places)
 }
 
 fn heard_text(heard: &Heard) -> String {

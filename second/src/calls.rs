@@ -1,6 +1,7 @@
 //! Making call lines: those that can be gone through one by one, and random ones. README.md gives the grammar.
 
 mod random;
+mod scales;
 mod superframes;
 mod systematic;
 
@@ -8,6 +9,7 @@ use crate::answer::state_text;
 use crate::bits::Bit;
 use crate::block::{self, Block};
 use crate::random::Random;
+use crate::scale::{self, COPIES};
 use crate::service::{Labels, Service, CHANNELS, CHARACTERS};
 use crate::superframe::State;
 use crate::text;
@@ -26,6 +28,29 @@ fn turn(bits: &mut [Bit], places: Vec<usize>) {
     for place in places {
         bits[place] ^= 1;
     }
+}
+
+/// Scale word `n` of 64, counted from 0, sent three times.
+fn sent(n: usize) -> [Bit; COPIES] {
+    let (_, word) = &scale::words()[n];
+    std::array::from_fn(|place| word[place % word.len()])
+}
+
+/// The places of 42 in which two scale words sent three times differ.
+fn between(one: usize, other: usize) -> Vec<usize> {
+    let (one, other) = (sent(one), sent(other));
+    (0..COPIES).filter(|n| one[*n] != other[*n]).collect()
+}
+
+/// A scale word sent three times, with `count` of these places turned, at random.
+fn part_way(random: &mut Random, one: usize, places: &[usize], count: usize) -> [Bit; COPIES] {
+    let picks = random.places(count, places.len());
+    let mut copies = sent(one);
+    turn(
+        &mut copies,
+        picks.into_iter().map(|pick| places[pick]).collect(),
+    );
+    copies
 }
 
 /// A state at this position and stage; `zero` leaves the open group's bytes 0. Places that carry nothing

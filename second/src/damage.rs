@@ -1,10 +1,10 @@
 //! Damage to superframes: which bits of the 128 main frames go wrong.
 
-use crate::bits;
+use crate::bits::{self, Bit};
 use crate::block;
 use crate::frame::{self, BITS, SERVICE, SYNC};
 use crate::random::Random;
-use crate::scale::WORD;
+use crate::scale::{self, COPIES, WORD};
 use crate::service::{SYNC_1, SYNC_2};
 use crate::source::Frames;
 use crate::superframe::{letter, FRAMES, PROGRAMMES};
@@ -20,6 +20,7 @@ enum Kind {
     Scale,
     Copy,
     Majority,
+    Tie,
     Sync,
     Syncs,
     Service,
@@ -34,15 +35,16 @@ enum Kind {
 }
 
 /// Each word with the largest amount behind its `=`; None where it takes no amount.
-const WORDS: [(&str, Kind, Option<usize>); 19] = [
+const WORDS: [(&str, Kind, Option<usize>); 20] = [
     ("places", Kind::Places, Some(PROTECTED)),
     ("upto", Kind::UpTo, Some(PROTECTED)),
     ("rate", Kind::Rate, Some(10_000)),
     ("burst", Kind::Burst, Some(BITS - 12)),
     ("low", Kind::Low, Some(12)),
-    ("scale", Kind::Scale, Some(3 * WORD)),
+    ("scale", Kind::Scale, Some(COPIES)),
     ("copy", Kind::Copy, None),
     ("majority", Kind::Majority, Some(WORD)),
+    ("tie", Kind::Tie, None),
     ("sync", Kind::Sync, Some(SYNC)),
     ("syncs", Kind::Syncs, Some(SYNC)),
     ("service", Kind::Service, Some(16)),
@@ -147,8 +149,8 @@ impl Damage {
             }
             Kind::Scale => {
                 for programme in 0..PROGRAMMES {
-                    for f in random.places(self.amount, 3 * WORD) {
-                        turn_extra(frames, programme, f);
+                    for f in random.places(self.amount, COPIES) {
+                        *extra_bit(frames, programme, f) ^= 1;
                     }
                 }
             }
@@ -156,7 +158,7 @@ impl Damage {
                 for programme in 0..PROGRAMMES {
                     let copy = random.index(3);
                     for n in (0..WORD).filter(|_| random.percent(50)) {
-                        turn_extra(frames, programme, WORD * copy + n);
+                        *extra_bit(frames, programme, WORD * copy + n) ^= 1;
                     }
                 }
             }
@@ -164,8 +166,15 @@ impl Damage {
                 for programme in 0..PROGRAMMES {
                     for n in random.places(self.amount, WORD) {
                         for copy in random.places(2, 3) {
-                            turn_extra(frames, programme, WORD * copy + n);
+                            *extra_bit(frames, programme, WORD * copy + n) ^= 1;
                         }
+                    }
+                }
+            }
+            Kind::Tie => {
+                for programme in 0..PROGRAMMES {
+                    for (f, bit) in tie(random).into_iter().enumerate() {
+                        *extra_bit(frames, programme, f) = bit;
                     }
                 }
             }
@@ -235,12 +244,35 @@ fn in_each_block(
     }
 }
 
-/// Turns the extra bit of a programme, counted from 0, in frame `f`, counted from 0.
-fn turn_extra(frames: &mut Frames, programme: usize, f: usize) {
+/// The extra bit of a programme, counted from 0, in frame `f`, counted from 0.
+fn extra_bit(frames: &mut Frames, programme: usize, f: usize) -> &mut Bit {
     // Programmes 1 to 8 stand in A, two in a block; 9 to 16 in B.
     let (half, block, bit) = (programme / 8, programme % 8 / 2, programme % 2);
     let place = frame::place(block + 1, block::EXTRA + bit + 1);
-    frames[FRAMES * half + f][place - 1] ^= 1;
+    &mut frames[FRAMES * half + f][place - 1]
+}
+
+/// How many places apart the two scale words of a tie are.
+const APART: usize = 6;
+
+/// 42 bits that differ from two scale words in 9 places each: of the six places in which those two differ, three are turned
+/// in one copy and three in two. From any third word they differ in 12 or more: it is 5 places or more from both,
+/// so it differs from both at two places beside the six, in all copies, and at each of the six from one copy at least.
+fn tie(random: &mut Random) -> Vec<Bit> {
+    let (_, one) = &scale::words()[random.index(64)];
+    let others = scale::words().iter().map(|(_, other)| other);
+    let others: Vec<&Vec<Bit>> = others
+        .filter(|other| bits::distance(one, other) == APART)
+        .collect();
+    let other = random.one_of(&others);
+    let places: Vec<usize> = (0..WORD).filter(|n| one[*n] != other[*n]).collect();
+    let mut copies = one.repeat(3);
+    for (n, pick) in random.places(APART, APART).into_iter().enumerate() {
+        for copy in random.places(1 + n % 2, 3) {
+            copies[WORD * copy + places[pick]] ^= 1;
+        }
+    }
+    copies
 }
 
 fn write_service_sync(frames: &mut Frames, sync: &str) {

@@ -8,7 +8,7 @@ pub enum Refusal {
     Range = 2,
     /// A main frame's sync is wrong.
     Sync = 3,
-    /// No scale word lies at most two places from the majority.
+    /// Two or more scale words are equally near, and none nearer.
     ScaleWord = 5,
     /// The parity of a programme byte is odd.
     Parity = 6,

@@ -1,4 +1,4 @@
-//! Scale words and the 64 extra bits of a programme (document 01, "Scale words").
+//! Scale words and the 64 extra bits of a programme (document 01, "Scale words"; document 02, P4).
 
 use crate::bits::{self, Bit};
 use crate::division;
@@ -38,22 +38,41 @@ pub fn words() -> &'static [(Factors, Vec<Bit>)] {
     })
 }
 
-fn majority(copies: &[Bit]) -> Vec<Bit> {
-    let ones = |place| copies[place] + copies[place + WORD] + copies[place + 2 * WORD];
-    (0..WORD).map(|place| Bit::from(ones(place) >= 2)).collect()
+/// The factors that 42 bits say.
+#[derive(Clone, Copy, Debug, PartialEq, Eq)]
+pub struct Near {
+    pub factors: Factors,
+    /// In how many of the 42 places the bits differ from their scale word sent three times.
+    pub places: u8,
 }
 
-/// The factors of 42 bits, three copies: of the 64 scale words the one at most two places from the majority.
-/// There is at most one, since scale words differ in at least 5 places.
-pub fn read(copies: &[Bit; COPIES]) -> Result<Factors, Refusal> {
+/// In how many of 42 places the copies differ from a scale word sent three times.
+fn differing(copies: &[Bit; COPIES], word: &[Bit]) -> usize {
+    let copies = copies.chunks(WORD);
+    copies.map(|copy| bits::distance(copy, word)).sum()
+}
+
+/// Of the 64 scale words sent three times, the one that differs from 42 bits in the fewest places (document 02,
+/// P4). Number 5 where several do.
+pub fn read(copies: &[Bit; COPIES]) -> Result<Near, Refusal> {
     if !bits::all_in_range(copies) {
         return Err(Refusal::Range);
     }
-    let majority = majority(copies);
-    let near = |(_, word): &&(Factors, Vec<Bit>)| bits::distance(word, &majority) <= 2;
-    match words().iter().find(near) {
-        Some((factors, _)) => Ok(*factors),
-        None => Err(Refusal::ScaleWord),
+    let all: Vec<Near> = words()
+        .iter()
+        .map(|(factors, word)| Near {
+            factors: *factors,
+            places: differing(copies, word) as u8,
+        })
+        .collect();
+    let fewest = all.iter().map(|near| near.places).min();
+    let nearest: Vec<&Near> = all
+        .iter()
+        .filter(|near| Some(near.places) == fewest)
+        .collect();
+    match nearest[..] {
+        [one] => Ok(*one),
+        _ => Err(Refusal::ScaleWord),
     }
 }
 
@@ -62,7 +81,7 @@ pub fn read(copies: &[Bit; COPIES]) -> Result<Factors, Refusal> {
 #[derive(Clone, Copy, Debug, PartialEq, Eq)]
 pub struct Extra {
     /// None for number 5.
-    pub factors: Option<Factors>,
+    pub near: Option<Near>,
     pub information: u32,
 }
 
@@ -73,7 +92,7 @@ pub fn read_extra(extra: &[Bit; EXTRA]) -> Result<Extra, Refusal> {
     let mut copies = [0; COPIES];
     copies.copy_from_slice(&extra[..COPIES]);
     Ok(Extra {
-        factors: read(&copies).ok(),
+        near: read(&copies).ok(),
         information: bits::to_number(&extra[COPIES..]) as u32,
     })
 }

@@ -189,9 +189,8 @@ impl State {
         // The factors read here hold for the superframe after the next.
         let mut read = [MISSING; CHANNELS];
         for (programme, extra) in extra.iter().enumerate() {
-            if let Some((left, right)) = extra.factors {
-                read[2 * programme] = left;
-                read[2 * programme + 1] = right;
+            if let Some(near) = extra.near {
+                (read[2 * programme], read[2 * programme + 1]) = near.factors;
             }
         }
         let state = State {

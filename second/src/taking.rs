@@ -64,6 +64,7 @@ struct Beside {
     bad: [u8; 8],
     numbers: [u8; PROGRAMMES],
     factors: [u8; CHANNELS],
+    places: [u8; PROGRAMMES],
     words: [u32; PROGRAMMES],
     six: [u8; 6],
     position: u8,
@@ -85,10 +86,11 @@ impl Beside {
             beside.bad[b] = counts.bad as u8;
         }
         for (p, extra) in taken.extra.iter().enumerate() {
-            let (left, right) = extra.factors.unwrap_or((MISSING, MISSING));
+            let (left, right) = extra.near.map_or((MISSING, MISSING), |near| near.factors);
             beside.factors[2 * p] = left;
             beside.factors[2 * p + 1] = right;
-            if extra.factors.is_none() {
+            beside.places[p] = extra.near.map_or(0, |near| near.places);
+            if extra.near.is_none() {
                 beside.numbers[p] = Refusal::ScaleWord.number();
             }
             beside.words[p] = extra.information;
@@ -114,6 +116,7 @@ impl Beside {
             text::hex(&self.bad),
             text::digits(&self.numbers),
             text::hex(&self.factors),
+            text::hex(&self.places),
             sum(self.words).to_string(),
             text::hex(&self.six),
             text::digits(&told),

@@ -46,12 +46,8 @@ fn write_taken(taken: &Taken, output: &mut impl Write) -> io::Result<()> {
         Some(labels) => text::spaced(labels.iter().map(|label| text::hex(label))),
     };
     writeln!(output, "labels {labels}")?;
-    let factors = |extra: &Extra| match extra.factors {
-        None => "--".to_string(),
-        Some((left, right)) => format!("{left}{right}"),
-    };
-    let factors = text::spaced(taken.extra.iter().map(factors));
-    writeln!(output, "factors {factors}")?;
+    writeln!(output, "{}", factors_line(taken))?;
+    writeln!(output, "{}", far_line(taken))?;
     writeln!(output, "{}", words_line(taken))?;
     writeln!(output, "sync {}", taken.wrong)?;
     let counts = taken.counts();
@@ -62,6 +58,23 @@ fn write_taken(taken: &Taken, output: &mut impl Write) -> io::Result<()> {
         writeln!(output, "samples {} {}", f + 1, text::spaced(samples))?;
     }
     Ok(())
+}
+
+fn factors_line(taken: &Taken) -> String {
+    let factors = |extra: &Extra| match extra.near {
+        None => "--".to_string(),
+        Some(near) => format!("{}{}", near.factors.0, near.factors.1),
+    };
+    format!("factors {}", text::spaced(taken.extra.iter().map(factors)))
+}
+
+/// How far the scale words are from the nearest.
+fn far_line(taken: &Taken) -> String {
+    let places = |extra: &Extra| match extra.near {
+        None => "-".to_string(),
+        Some(near) => near.places.to_string(),
+    };
+    format!("far {}", text::spaced(taken.extra.iter().map(places)))
 }
 
 /// The information words, without an end of line.

@@ -1,13 +1,13 @@
 //! Random call lines: good, at the edges, damaged and out of range.
 
-use super::{service, spoil, state, superframes, turn, written, FIELDS};
+use super::{between, part_way, sent, service, spoil, state, superframes, turn, written, FIELDS};
 use crate::answer::{hex_or_dash, state_text, MOST_BYTES, MOST_RUN, MOST_SAMPLES, MOST_SWEPT};
 use crate::bits::{self, Bit};
 use crate::block::Block;
 use crate::frame::{self, Letter};
 use crate::random::Random;
 use crate::reel;
-use crate::scale::{self, COPIES, EXTRA, WORD};
+use crate::scale::{COPIES, EXTRA, WORD};
 use crate::service::{CHANNELS, SYNC_1, SYNC_2};
 use crate::superframe::{self, State, MISSING};
 use crate::text;
@@ -251,20 +251,18 @@ fn factor_of_samples(random: &mut Random) -> String {
     format!("factor {}", text::spaced(samples))
 }
 
-/// Three copies of a scale word: with few wrong places, with one copy of noise, or noise altogether.
+/// Three copies of a scale word: noise altogether, with one copy of noise, with two copies wrong at few places, about
+/// as far from it as from another, or with up to half of the 42 places wrong.
 fn copies(random: &mut Random) -> [Bit; COPIES] {
-    let mut copies: [Bit; COPIES] = random.bits();
-    let (_, word) = &scale::words()[random.index(64)];
-    match random.below(5) {
-        0 => {}
+    let word = random.index(64);
+    let mut copies = sent(word);
+    match random.below(7) {
+        0 => copies = random.bits(),
         1 => {
-            let spared = random.index(3);
-            for copy in (0..3).filter(|copy| *copy != spared) {
-                copies[WORD * copy..][..WORD].copy_from_slice(word);
-            }
+            let copy = random.index(3);
+            copies[WORD * copy..][..WORD].copy_from_slice(&random.bits::<WORD>());
         }
         2 => {
-            copies.copy_from_slice(&word.repeat(3));
             let count = random.index(5);
             for place in random.places(count, WORD) {
                 let two = random.places(2, 3);
@@ -274,9 +272,13 @@ fn copies(random: &mut Random) -> [Bit; COPIES] {
                 );
             }
         }
+        3 => {
+            let places = between(word, random.index(64));
+            let count = places.len() / 2 + random.index(2);
+            copies = part_way(random, word, &places, count);
+        }
         _ => {
-            copies.copy_from_slice(&word.repeat(3));
-            let count = random.index(10);
+            let count = random.index(COPIES / 2 + 1);
             turn(&mut copies, random.places(count, COPIES));
         }
     }

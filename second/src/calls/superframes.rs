@@ -203,7 +203,7 @@ fn every_position() -> Vec<Asked> {
 fn every_damage() -> Vec<Asked> {
     let mut all = Vec::new();
     for rate in [0, 1, 4, 8, 12, 16, 32, 128, 255] {
-        for scale in [0, 16, 64, 128] {
+        for scale in [0, 16, 32, 64, 128] {
             let mut asked = Asked::good(&[5, u64::from(rate), u64::from(scale)]);
             asked.recipe.rate = rate;
             asked.recipe.scale = scale;

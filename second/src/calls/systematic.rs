@@ -1,12 +1,11 @@
 //! Call lines that go through everything there is, or through every edge.
 
-use super::{service, state, superframes, turn, written};
+use super::{scales, service, state, superframes, turn, written};
 use crate::answer::{state_text, MOST_RUN, MOST_SWEPT};
 use crate::bits;
 use crate::block;
 use crate::random::Random;
 use crate::reel;
-use crate::scale::WORD;
 use crate::service::{SYNC_1, SYNC_2};
 use crate::superframe;
 use crate::text;
@@ -15,7 +14,7 @@ use crate::word::PROTECTED;
 type Lines = Box<dyn Iterator<Item = String>>;
 
 /// Everything that can be gone through: all programme bytes, names and modes, all samples and codes at
-/// all factors, all scale words and majorities, all choices of at most two wrong places of a block,
+/// all factors, all scale words, all choices of at most two wrong places of them and of a block,
 /// and the edges of headers, runs, factors, states and superframes.
 pub fn all() -> impl Iterator<Item = String> {
     let parts: Vec<Lines> = vec![
@@ -25,8 +24,7 @@ pub fn all() -> impl Iterator<Item = String> {
         Box::new(all_sweeps("codes")),
         Box::new(all_sweeps("samples")),
         Box::new(factor_edges()),
-        Box::new((0..100).map(|n| format!("swrite {} {}", n / 10, n % 10))),
-        Box::new(all_majorities()),
+        Box::new(scales::all()),
         Box::new(all_pairs_of_places()),
         Box::new(bench_blocks()),
         Box::new(header_edges()),
@@ -66,14 +64,6 @@ fn factor_edges() -> impl Iterator<Item = String> {
             samples[place] = edge;
             format!("factor {}", text::spaced(samples))
         })
-    })
-}
-
-/// Each of 16,384 majorities, as three equal copies.
-fn all_majorities() -> impl Iterator<Item = String> {
-    (0..1 << WORD).map(|majority| {
-        let word = bits::of_number(majority, WORD);
-        format!("sread {}", text::digits(&word.repeat(3)))
     })
 }
 

@@ -95,11 +95,34 @@ fn answers() {
         ("swrite 0 8".to_string(), "2".to_string()),
         (
             format!("sread {}", "00001001110011".repeat(3)),
-            "0 0 2".to_string(),
+            "0 0 2 0".to_string(),
+        ),
+        (
+            format!("sread {}1111111", "00001001110011".repeat(2) + &zeros(7)),
+            "0 0 2 3".to_string(),
+        ),
+        // Factors 0 and 1 have five ones: seven and eight of 15 places.
+        (
+            format!("sread 0000011101000100000110000000{}", zeros(14)),
+            "0 0 0 7".to_string(),
+        ),
+        (
+            format!("sread 0000011101000100000111000000{}", zeros(14)),
+            "0 0 1 7".to_string(),
+        ),
+        // Factors 0 and 2 have six.
+        (
+            format!("sread 0000100111001100001001010000{}", zeros(14)),
+            "5".to_string(),
         ),
         (format!("sread {}", "1".repeat(42)), "5".to_string()),
         (format!("sread {}7", zeros(41)), "2".to_string()),
-        (format!("sextra {}1", zeros(63)), "0 0 0 1".to_string()),
+        (format!("sread {}7", "1".repeat(41)), "2".to_string()),
+        (format!("sextra {}1", zeros(63)), "0 0 0 0 1".to_string()),
+        (
+            format!("sextra 1{}1{}1", zeros(40), zeros(21)),
+            "0 0 0 2 1".to_string(),
+        ),
         (
             format!("sextra {}", "1".repeat(64)),
             "5 4194303".to_string(),

@@ -101,7 +101,7 @@ fn damaged_sample() {
 /// Every sample and every mark as the transcript has it, and the words; zeros and 255 where a superframe is lost.
 #[test]
 fn same_as_the_transcript() {
-    let reel = make("7 12 rate=150@3-9 sync=3@5 majority=3%50");
+    let reel = make("7 12 rate=150@3-9 sync=3@5 tie%50");
     let handed = hand_on("transcript", &reel);
     let mut sound = vec![wav::header(16, 12 * 64); 16];
     let mut marks = vec![wav::header(8, 12 * 64); 16];

@@ -238,6 +238,9 @@ fn short_reads() {
 fn transcript_by_hand() {
     let scaled = |word| Superframe::zero().scale(1, word, "0000000000001111010111");
     let mut first = scaled("00001001110011");
+    // One wrong place in programme 16; in programme 3 one copy of three is wrong in all 14.
+    first = first.extra(15, &format!("1{}", "0".repeat(63)));
+    first = first.extra(2, &format!("{}{}", "1".repeat(14), "0".repeat(50)));
     first.six = [1, 2, 3, 4, 5, 0xfe];
     let mut lost = Superframe::zero().bytes();
     lost[5080] ^= 7;
@@ -257,6 +260,7 @@ fn transcript_by_hand() {
     expected.push("service 0 0 0102030405fe".to_string());
     expected.push("labels none".to_string());
     expected.push(factors("02"));
+    expected.push(format!("far 0 0 14{} 1", " 0".repeat(12)));
     expected.push(words.clone());
     expected.push("sync 0".to_string());
     expected.push("blocks 512 0 0".to_string());
@@ -269,6 +273,7 @@ fn transcript_by_hand() {
     expected.push("service 0 7 000000000000".to_string());
     expected.push("labels none".to_string());
     expected.push(factors("--"));
+    expected.push(format!("far 0 -{}", " 0".repeat(14)));
     expected.push(words);
     expected.push("sync 3".to_string());
     expected.push("blocks 511 1 0".to_string());
@@ -401,18 +406,91 @@ fn damage() {
     assert_eq!(counts_of("4 2 chaff")[1], 0);
     let good = transcript(&make("4 4"));
     assert_eq!(transcript(&make("4 4 bbit")), good);
-    for word in ["copy", "majority=2", "scale=2"] {
-        assert_eq!(transcript(&make(&format!("4 4 {word}"))), good, "{word}");
-    }
-    let five = transcript(&make("4 4 majority=3"));
-    assert!(lines(&five, "factors")
-        .iter()
-        .all(|line| line.contains("--")));
-    assert_eq!(lines(&five, "words"), lines(&good, "words"));
     let seven = transcript(&make("4 4 service=1@2"));
     let number = |line: &&str| line.as_bytes()[10];
     let numbers: Vec<u8> = lines(&seven, "service").iter().map(number).collect();
     assert_eq!(numbers, *b"0700");
+}
+
+/// Nothing of a reel changes but how far its scale words are from the nearest.
+fn far_alone(words: &str) -> Vec<String> {
+    let without = |text: &str| -> Vec<String> {
+        let rest = text.lines().filter(|line| !line.starts_with("far "));
+        rest.map(str::to_string).collect()
+    };
+    let reel = words.split(' ').take(2).collect::<Vec<_>>().join(" ");
+    let text = transcript(&make(words));
+    assert_eq!(
+        without(&text),
+        without(&transcript(&make(&reel))),
+        "{words}"
+    );
+    let far = lines(&text, "far");
+    let numbers = far.iter().flat_map(|line| line.split(' ').skip(1));
+    numbers.map(str::to_string).collect()
+}
+
+/// Wrong places of scale words: seven at most come back as sent, and so does a word of which one copy is noise.
+#[test]
+fn damage_to_scale_words() {
+    let all = |words: &str, number: &str| {
+        let far = far_alone(words);
+        assert_eq!(far.len(), 4 * 16);
+        assert!(far.iter().all(|places| places == number), "{words}");
+    };
+    for seed in 4..10 {
+        all(&format!("{seed} 4"), "0");
+        for places in 0..=7 {
+            all(&format!("{seed} 4 scale={places}"), &places.to_string());
+        }
+        for (places, number) in [(1, "2"), (2, "4"), (3, "6")] {
+            all(&format!("{seed} 4 majority={places}"), number);
+        }
+        let far = far_alone(&format!("{seed} 4 copy"));
+        let numbers: Vec<u8> = far.iter().map(|places| places.parse().unwrap()).collect();
+        assert!(numbers.iter().all(|places| *places <= 14));
+        assert!(numbers.iter().any(|places| *places > 7));
+    }
+    // From eight on a reel may have other factors, or none.
+    let good = transcript(&make("4 20"));
+    for places in [12, 16, 21] {
+        let text = transcript(&make(&format!("4 20 scale={places}")));
+        assert_ne!(lines(&text, "factors"), lines(&good, "factors"));
+    }
+}
+
+/// Number 5 in every programme, whatever was wrong before; the information words stay. Where each place is wrong in two copies,
+/// a scale word that differs from the sent one in n of 14 places is 28 - n away: six of them differ in 10, the most.
+#[test]
+fn ties() {
+    for words in [
+        "tie@2-3",
+        "scale=30 tie@2-3",
+        "copy tie@2-3",
+        "majority=5 tie@2-3",
+        "majority=14@2-3",
+    ] {
+        for seed in 4..10 {
+            let text = transcript(&make(&format!("{seed} 4 {words}")));
+            for n in [1, 2] {
+                let factors = format!("factors{}", " --".repeat(16));
+                assert_eq!(lines(&text, "factors")[n], factors, "{words}");
+                assert_eq!(lines(&text, "far")[n], format!("far{}", " -".repeat(16)));
+            }
+            let good = transcript(&make(&format!("{seed} 4")));
+            assert_eq!(lines(&text, "words"), lines(&good, "words"));
+        }
+    }
+    // Two superframes on there are no factors, and before and behind there are.
+    let text = transcript(&make("4 8 tie@3"));
+    let marks: Vec<&str> = lines(&text, "marks 64 ")
+        .iter()
+        .map(|line| &line[9..])
+        .collect();
+    for (n, row) in marks.into_iter().enumerate() {
+        let mark = if [0, 1, 4].contains(&n) { "3" } else { "0" };
+        assert_eq!(row, mark.repeat(32), "superframe {}", n + 1);
+    }
 }
 
 /// The same seed gives the same bytes, here and everywhere; another seed gives others.
@@ -441,6 +519,8 @@ fn words_that_are_refused() {
         "places=x",
         "places=-1",
         "copy=1",
+        "tie=1",
+        "scale=43",
         "sync=12",
         "syncs=12",
         "noise%101",

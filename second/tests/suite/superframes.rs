@@ -2,6 +2,7 @@
 
 use crate::hand::{busy_state, make, superframes, Superframe, SYNC_2};
 use second::numbers::Refusal;
+use second::scale::Near;
 use second::service::Sync;
 use second::source;
 use second::superframe::{State, Taken};
@@ -119,7 +120,7 @@ fn factors_go_two_ahead() {
             } else {
                 ((0, 0), 0)
             };
-            assert_eq!((extra.factors.unwrap(), extra.information), expected);
+            assert_eq!((extra.near.unwrap().factors, extra.information), expected);
         }
         let mut after = [0; 32];
         after[2 * programme + 1] = 1;
@@ -144,16 +145,41 @@ fn number_5_inside_a_superframe() {
     let taken = taken.unwrap();
     assert_eq!((taken.counts().bad, taken.blocks[5].bad), (64, 64));
     assert_eq!(
-        (taken.extra[11].factors, taken.extra[11].information),
+        (taken.extra[11].near, taken.extra[11].information),
         (None, 0x3f_ffff)
     );
+    let near = Near {
+        factors: (0, 0),
+        places: 0,
+    };
     assert_eq!(
-        (taken.extra[10].factors, taken.extra[10].information),
-        (Some((0, 0)), 0)
+        (taken.extra[10].near, taken.extra[10].information),
+        (Some(near), 0)
     );
     let mut after = [0; 32];
     after[22..24].fill(8);
     assert_eq!((next.now, next.after), ([0; 32], after));
+}
+
+/// Each programme says in how many places its scale words are wrong, and the factors are those that were sent.
+#[test]
+fn wrong_places_of_each_programme() {
+    let mut superframe = Superframe::zero();
+    for programme in 0..16 {
+        // The last of the 42, and only as many as are surely mended.
+        let wrong = (programme + 3) % 8;
+        let copies = format!("{}{}", "0".repeat(42 - wrong), "1".repeat(wrong));
+        superframe = superframe.extra(programme, &format!("{copies}{}", "1".repeat(22)));
+    }
+    let (taken, next) = at_zero().take(&superframe.bytes());
+    for (programme, extra) in taken.unwrap().extra.into_iter().enumerate() {
+        let near = Near {
+            factors: (0, 0),
+            places: (programme as u8 + 3) % 8,
+        };
+        assert_eq!((extra.near, extra.information), (Some(near), 0x3f_ffff));
+    }
+    assert_eq!(next.after, [0; 32]);
 }
 
 /// The service bits of the 64 frames A: six bytes, then the sync.
@@ -213,7 +239,7 @@ fn sound_comes_back() {
         let ahead = source::sound(5, k + 2).unwrap();
         for (p, extra) in taken.extra.iter().enumerate() {
             let factors = (ahead.factors[2 * p], ahead.factors[2 * p + 1]);
-            assert_eq!(extra.factors, Some(factors));
+            assert_eq!(extra.near, Some(Near { factors, places: 0 }));
         }
         let sound = source::sound(5, k).unwrap();
         for f in 0..64 {

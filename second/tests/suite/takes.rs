@@ -6,7 +6,7 @@ use second::bits;
 use second::calls;
 use second::frame;
 use second::recipe::Recipe;
-use second::scale::Extra;
+use second::scale::{Extra, Near};
 use second::service::Sync;
 use second::superframe::{Counts, State, Taken};
 use std::collections::HashSet;
@@ -53,6 +53,11 @@ fn codes_of_a_recipe() {
     }
 }
 
+fn drawn_factors(recipe: &Recipe, programme: u64) -> (u8, u8) {
+    let factor = |channel| (number(recipe, 1, channel) % 8) as u8;
+    (factor(2 * programme), factor(2 * programme + 1))
+}
+
 /// Everything that is drawn can be read.
 #[test]
 fn what_is_drawn_is_sent() {
@@ -68,8 +73,8 @@ fn what_is_drawn_is_sent() {
         assert_eq!(taken.marks, [[0; 32]; 64]);
         for (p, extra) in taken.extra.iter().enumerate() {
             let p = p as u64;
-            let factor = |channel| (number(&recipe, 1, channel) % 8) as u8;
-            assert_eq!(extra.factors, Some((factor(2 * p), factor(2 * p + 1))));
+            let factors = drawn_factors(&recipe, p);
+            assert_eq!(extra.near, Some(Near { factors, places: 0 }));
             let word = (42..64).fold(0, |word, f| 2 * word + number(&recipe, 2, 64 * p + f) % 2);
             assert_eq!(u64::from(extra.information), word);
         }
@@ -124,6 +129,29 @@ fn turned_bits_of_scale_words() {
     }
 }
 
+/// Up to seven of the 42 bits of a programme may be turned; it says how many are.
+#[test]
+fn turned_bits_are_told() {
+    let mut told = HashSet::new();
+    for seed in 0..20 {
+        let recipe = Recipe {
+            scale: 24,
+            ..plain(seed)
+        };
+        let taken = taken(&State::fresh(), &recipe);
+        for (p, extra) in taken.extra.iter().enumerate() {
+            let places = (64 * p..64 * p + 42).filter(|n| number(&recipe, 2, *n as u64) % 256 < 24);
+            let places = places.count() as u8;
+            if places <= 7 {
+                let factors = drawn_factors(&recipe, p as u64);
+                assert_eq!(extra.near, Some(Near { factors, places }));
+                told.insert(places);
+            }
+        }
+    }
+    assert_eq!(told.len(), 8);
+}
+
 #[test]
 fn turned_byte() {
     let at = |place, turned| Recipe {
@@ -155,8 +183,9 @@ fn nothing() -> String {
     let eight = zeros(16);
     let samples = sum(&[32768 - 21555; 4096]);
     let marks = sum(&[165; 4096]);
-    let (numbers, factors, six) = (zeros(16), zeros(64), zeros(12));
-    format!("0 {eight} {eight} {eight} {numbers} {factors} 0 {six} 000 0 {samples} {marks}")
+    let (numbers, factors, places, six) = (zeros(16), zeros(64), zeros(32), zeros(12));
+    let beside = format!("{numbers} {factors} {places} 0 {six} 000 0");
+    format!("0 {eight} {eight} {eight} {beside} {samples} {marks}")
 }
 
 fn line(lengths: &str, recipe: &Recipe, state: &State) -> String {
@@ -205,7 +234,7 @@ fn refusals() {
     assert!(taken.starts_with("0 "));
 }
 
-/// Everything handed out stands in the answer: here labels come, and some programmes' scale words cannot be read.
+/// Everything handed out stands in the answer: here labels come, and some programmes' scale words are as near to several.
 #[test]
 fn answer_of_a_superframe() {
     let mut state = busy_state();
@@ -213,7 +242,7 @@ fn answer_of_a_superframe() {
     state.service.stage = 8;
     let recipe = Recipe {
         rate: 12,
-        scale: 60,
+        scale: 100,
         ..plain(3)
     };
     let (taken, next) = state.take(&recipe.superframe().unwrap());
@@ -222,13 +251,18 @@ fn answer_of_a_superframe() {
         let counts = taken.blocks.iter().map(count);
         counts.map(|count| format!("{count:02x}")).collect()
     };
-    let number = |e: &Extra| if e.factors.is_some() { '0' } else { '5' };
-    let factors = |e: &Extra| match e.factors {
+    let number = |e: &Extra| if e.near.is_some() { '0' } else { '5' };
+    let factors = |e: &Extra| match e.near.map(|near| near.factors) {
         Some((left, right)) => format!("0{left}0{right}"),
         None => "0808".to_string(),
     };
+    let places = |e: &Extra| match e.near {
+        Some(near) => format!("{:02x}", near.places),
+        None => "00".to_string(),
+    };
     let numbers: String = taken.extra.iter().map(number).collect();
     let factors: String = taken.extra.iter().map(factors).collect();
+    let places: String = taken.extra.iter().map(places).collect();
     assert!(numbers.contains('0') && numbers.contains('5'));
     let words: Vec<u64> = taken.extra.iter().map(|e| e.information.into()).collect();
     let labels = taken.heard.labels.unwrap();
@@ -249,6 +283,7 @@ fn answer_of_a_superframe() {
         hex(|counts| counts.bad),
         numbers,
         factors,
+        places,
         sum(&words).to_string(),
         "8001123456ff".to_string(),
         "801".to_string(),
@@ -305,7 +340,7 @@ fn answered(line: &str, faults: [bool; 3]) -> Vec<String> {
 #[test]
 fn systematic_lines() {
     let mut unreadable = 0;
-    let (mut seen, mut brought) = (HashSet::new(), HashSet::new());
+    let (mut seen, mut brought, mut far) = (HashSet::new(), HashSet::new(), HashSet::new());
     let (mut frames, mut syncs, mut numbers) = (HashSet::new(), HashSet::new(), HashSet::new());
     for line in calls::all().filter(|line| line.starts_with("take")) {
         if answer(&line).is_none() {
@@ -332,7 +367,8 @@ fn systematic_lines() {
             let readings = (0..3).filter(|n| said[SYNC + 1 + n] != "0".repeat(16));
             brought.extend(readings.map(|reading| format!("reading {reading}")));
             brought.insert(format!("5 {}", said[SYNC + 4].contains('5')));
-            brought.insert(said[SYNC + 8].clone());
+            brought.insert(said[SYNC + 9].clone());
+            far.extend((0..16).map(|p| (&said[SYNC + 4][p..=p] == "5", byte(&said[SYNC + 6], p))));
         }
     }
     // Two that are too short, and one for each word before the state.
@@ -341,6 +377,10 @@ fn systematic_lines() {
     assert_eq!(numbers.len(), 8);
     // Three readings; with number 5 and without; nine positions with 0 and 7, and at the last one labels too.
     assert_eq!(brought.len(), 3 + 2 + 18 + 2);
+    // Scale words are any number of places away; with number 5 it is 0.
+    assert!((0..=15).all(|places| far.contains(&(false, places))));
+    assert_eq!(far.iter().filter(|(five, _)| *five).count(), 1);
+    assert!(far.contains(&(true, 0)));
 }
 
 /// Of the random lines some are refused with each number, and more than half are not.
