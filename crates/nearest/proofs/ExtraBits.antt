@@ -1,36 +1,30 @@
 -- The 64 extra bits.
---     information-sum           the information word as the code adds it up
+--     information-number        the information word as the code adds it up
 --     extra-reading             what they read as, where they are bits
 --     extra-word                the information word comes out whatever the scale word reads as
 --     extra-five                so with number 5 too; and then no factor and no number of places
 -- Assumes nothing.
-use mathlib.Core.Path.{_≡_, sym, ap, _∙_}
+use mathlib.Core.Path.{_≡_, ap, _∙_}
 use mathlib.Core.Bool.{true}
 use mathlib.Core.List.{List}
-use Prim.Native.Nat.{ℕ, _+_, _%_}
-use native.Mathlib.Nat.{mod-eq-of-lt}
+use Prim.Native.Nat.{ℕ, _≤_}
 use native.Mathlib.Omega.{arith}
-use lib.ListN.{length, getD, take, drop, length-drop}
-use lib.Seq.{getD-drop}
+use lib.ListN.{length, take, drop, length-drop}
+use lib.Seq.{take-all}
 use Rattle.bits.specs.Bits.{areBits}
 use Rattle.bits.specs.Digits.{value}
-use Rattle.bits.specs.Table.{tabulate}
-use Rattle.bits.proofs.Bits.{bits-below}
-use Rattle.bits.proofs.Digits.{below-getD}
-use Rattle.bits.proofs.Table.{tab-ext, tab-getD}
 use Rattle.nearest.specs.Reading.{readScale}
 use Rattle.nearest.specs.Extra.{information, beside, extraAnswer}
 use Rattle.nearest.specs.Document.{Tie}
+use Rattle.nearest.specs.Search.{bitsFrom}
+use Rattle.nearest.proofs.Numbers.{all-from}
 use Rattle.nearest.proofs.Nearest.{tie-five}
 
-pub information-sum : (bits : List ℕ) → length bits ≡ 64 → areBits bits ≡ true → value 2 (tabulate 22 (λ j. getD bits (42 + j) 0 % 2)) ≡ information bits
+pub information-number : (bits : List ℕ) → length bits ≡ 64 → areBits bits ≡ true → value 2 (bitsFrom bits 42 22) ≡ information bits
 unfolding information
-information-sum bits s t =
-    let sized : length (drop 42 bits) ≡ 22 = length-drop 42 bits ∙ omega arith in
-    ap (value 2)
-    (tab-ext 22 (λ j. getD bits (42 + j) 0 % 2) (λ j. getD (drop 42 bits) j 0)
-    (λ j h. mod-eq-of-lt (below-getD 2 bits (42 + j) (bits-below bits t) (omega arith)) ∙ sym (getD-drop 42 bits j 0))
-    ∙ sym (tab-getD 22 (drop 42 bits) 0 sized))
+information-number bits s t =
+    let sized : length (drop 42 bits) ≤ 22 = rw (length-drop 42 bits) (omega arith) in
+    ap (value 2) (all-from bits 42 22 t (omega arith) ∙ take-all 22 (drop 42 bits) sized)
 
 module _ (bits : List ℕ) (t : areBits bits ≡ true) where
   pub extra-reading : extraAnswer bits ≡ beside (information bits) (readScale (take 42 bits))

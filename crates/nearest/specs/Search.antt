@@ -1,13 +1,13 @@
 -- How the code looks for the nearest of the 64. Nothing that is promised to a caller stands on these.
 --     sentTable             the 64 scale words sent three times, as numbers
---     fortyTwo bits         the first 42 entries, each by its lowest binary digit; 0 past the end
+--     bitsFrom bits at n    n entries from a place on, each by its lowest binary digit; 0 past the end
 --     betterOf s n d        the best so far, with pair n, which differs in d places
 --     Holds bits k s        s is the best of the pairs below k: one that differs in the fewest places, their number, and whether it is the only one
 --     bestTold s            what the best of all 64 reads as
 use mathlib.Core.Path.{_≡_}
 use mathlib.Core.Bool.{true, false, cond}
 use mathlib.Core.List.{List, [], _∷_}
-use Prim.Native.Nat.{ℕ, _/_, _%_, _≤_, _<_}
+use Prim.Native.Nat.{ℕ, _+_, _/_, _%_, _≤_, _<_}
 use lib.Dec.{eqb, ltb}
 use lib.ListN.{getD}
 use Rattle.bits.specs.Answer.{Answer, accepted, refused}
@@ -20,8 +20,8 @@ use Rattle.nearest.specs.declared.Best.{Best}
 unfoldable pub sentTable : List ℕ
 sentTable = tabulate 64 (λ n. value 2 (thrice (scaleWord (n / 8) (n % 8))))
 
-unfoldable pub fortyTwo : List ℕ → List ℕ
-fortyTwo bits = tabulate 42 (λ j. getD bits j 0 % 2)
+unfoldable pub bitsFrom : List ℕ → ℕ → ℕ → List ℕ
+bitsFrom bits at n = tabulate n (λ j. getD bits (at + j) 0 % 2)
 
 unfoldable pub betterOf : Best → ℕ → ℕ → Best
 betterOf s n d =

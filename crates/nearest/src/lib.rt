@@ -2,13 +2,11 @@
 mod sent_table; // sent_table.rt: the 64 scale words sent three times
 
 ghost use mathlib.Core.Path.{_≡_};
-ghost use Prim.Native.Nat.{_+_, _%_, _<_, _^_};
-ghost use lib.ListN.{getD};
-ghost use Rattle.bits.specs.Table.{tabulate};
+ghost use Prim.Native.Nat.{_≤_, _<_, _^_};
 ghost use Rattle.bits.specs.Digits.{value, digits};
 ghost use Rattle.nearest.specs.Reading.{away, readScale, scaleAnswer, factorsTold};
 ghost use Rattle.nearest.specs.Extra.{extraAnswer};
-ghost use Rattle.nearest.specs.Search.{sentTable, fortyTwo, betterOf, Holds, bestTold};
+ghost use Rattle.nearest.specs.Search.{sentTable, bitsFrom, betterOf, Holds, bestTold};
 use sent_table::SENT;
 
 // What 42 bits read as: number 0, the left and the right factor, and in how many of the 42 places their word differs; number 5; or number 2.
@@ -41,14 +39,15 @@ fn sent() -> [u64; 64]
     SENT
 }
 
-// The first 42 entries as a number, the first bit the highest.
-fn number_of(bits: &[u8]) -> u64
-    ensures { λ r. ⌜ r ≡ value 2 (fortyTwo (now (bits .entry))) ⌝ }
+// The n entries from a place on as a number, the first bit the highest.
+fn number_from(bits: &[u8], at: usize, n: usize) -> u64
+    requires { ⌜ (at ≤ 42) × (n ≤ 42) ⌝ }
+    ensures { λ r. ⌜ r ≡ value 2 (bitsFrom (now (bits .entry)) at n) ⌝ }
 {
     let mut sum: u64 = 0;
     let mut j: usize = 0;
-    while j < 42 {
-        sum = sum * 2 + (bits::byte_of(bits, j) % 2) as u64;
+    while j < n {
+        sum = sum * 2 + (bits::byte_of(bits, at + j) % 2) as u64;
         j += 1;
     }
     sum
@@ -103,9 +102,9 @@ fn best_of(words: &[u64; 64], number: u64) -> Best
 // The best of all 64 for the first 42 entries, each by its lowest binary digit. Words sent three times are 15 apart, so one that differs in at most seven places is the
 // nearest; that of the six bits that came first mostly is.
 fn nearest_in(bits: &[u8]) -> Best
-    ensures { λ r. ⌜ bestTold r ≡ readScale (fortyTwo (now (bits .entry))) ⌝ }
+    ensures { λ r. ⌜ bestTold r ≡ readScale (bitsFrom (now (bits .entry)) 0 42) ⌝ }
 {
-    let number = number_of(bits);
+    let number = number_from(bits, 0, 42);
     let words = sent();
     let came = (number >> 36) as u8;
     let places = far(&words, number, came);
@@ -133,19 +132,6 @@ pub fn read(bits: [u8; 42]) -> Reading
     }
 }
 
-// The information word of the extra bits: bits 43 to 64, the first of them the highest.
-fn word_behind(bits: &[u8]) -> u32
-    ensures { λ r. ⌜ r ≡ value 2 (tabulate 22 (λ j. getD (now (bits .entry)) (42 + j) 0 % 2)) ⌝ }
-{
-    let mut sum: u32 = 0;
-    let mut j: usize = 0;
-    while j < 22 {
-        sum = sum * 2 + (bits::byte_of(bits, 42 + j) % 2) as u32;
-        j += 1;
-    }
-    sum
-}
-
 pub fn read_extra(bits: [u8; 64]) -> Extra
     ensures { λ r. ⌜ r ≡ extraAnswer bits ⌝ }
 {
@@ -158,7 +144,7 @@ pub fn read_extra(bits: [u8; 64]) -> Extra
             word: 0,
         };
     }
-    let word = word_behind(&bits);
+    let word = number_from(&bits, 42, 22) as u32;
     let found = nearest_in(&bits);
     if found.alone {
         Extra {

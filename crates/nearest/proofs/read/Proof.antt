@@ -3,12 +3,14 @@ use mathlib.Core.Path.{_≡_, sym, ap, _∙_}
 use mathlib.Core.Bool.{true}
 use mathlib.Core.List.{List}
 use Prim.Native.Nat.{ℕ}
+use native.Mathlib.Omega.{arith}
 use lib.ListN.{length}
+use lib.Seq.{take-all}
 use borrow.Author.Tests.{not-true, not-false}
 use Rattle.bits.specs.Bits.{areBits}
 use Rattle.nearest.specs.Reading.{readScale, scaleAnswer}
 use Rattle.nearest.specs.Search.{bestTold}
-use Rattle.nearest.proofs.Numbers.{forty-two}
+use Rattle.nearest.proofs.Numbers.{all-from}
 use Rattle.nearest.proofs.Search.{told-alone, told-shared}
 use borrow.Author.Needs.{needs}
 use Rattle.nearest.proofs.read.Statement.{statement}
@@ -40,7 +42,7 @@ module _ (c : tie.After-nearest-in) where
       let tested = c .before .before in
       let all : areBits given ≡ true = sym (tested .before .are-bits .ensures) ∙ not-false _ (tested .if1 .left) in
       let sized : length given ≡ 42 = search needs in
-      rw all (c .nearest-in .ensures ∙ ap readScale (forty-two given sized all))
+      rw all (c .nearest-in .ensures ∙ ap readScale (all-from given 0 42 all (omega arith) ∙ take-all 42 given (omega arith)))
 
 returns-2 : tie.Need-returns-2
 returns-2 c =
