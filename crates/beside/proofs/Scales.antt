@@ -11,7 +11,7 @@ use mathlib.Core.Bool.{true}
 use mathlib.Core.List.{List, [], _∷_}
 use Prim.Native.Nat.{ℕ, _+_, _-_, _/_, _%_, _≤_}
 use native.Mathlib.Omega.{arith}
-use lib.ListN.{length, take}
+use lib.ListN.{length}
 use Rattle.bits.specs.Answer.{Answer, accepted, refused}
 use Rattle.bits.specs.Bits.{ones, areBits}
 use Rattle.bits.proofs.Bits.{bits-below, below-bits, bit-below}
@@ -26,7 +26,7 @@ use Rattle.nearest.proofs.Nearest.{nearest-reads, tie-five, nearest-or-tie, sev
 use Rattle.nearest.proofs.ExtraBits.{extra-reading}
 use Rattle.tape.specs.Tape.{blockIn}
 use Rattle.tape.proofs.Tape.{block-bits}
-use Rattle.tape.specs.Document.{entry, channelOf}
+use Rattle.tape.specs.Document.{entry}
 use Rattle.beside.specs.Beside.{extraBit, extraBits, extraOf, placesAt, programmesOf}
 use Rattle.beside.specs.Document.{scaleBits, ReadAs, Unread}
 use Rattle.beside.proofs.Stands.{number-is, five-missing, factor-there}

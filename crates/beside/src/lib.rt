@@ -10,7 +10,7 @@ pub struct Programmes {
     pub numbers: [u8; 16],
     // of the 32 channels, for the superframe after the next; 8: missing
     pub factors: [u8; 32],
-    // of the 42 bits of the scale word, sent three times, those that the nearest one differs in
+    // in how many of its 42 bits the nearest scale word, sent three times, differs; 0 where a number came
     pub places: [u8; 16],
     // information words of 22 bits, the first bit the highest
     pub words: [u32; 16],

@@ -4,14 +4,14 @@
 --     number-small          so a programme's number is 0 or 5
 --     factor-small          and the factor of a channel 0 to 8
 -- Assumes nothing.
-use mathlib.Core.Path.{_≡_, refl, _∙_}
+use mathlib.Core.Path.{_≡_, refl}
 use mathlib.Core.Logic.{_⊎_, inl, inr, ⊎-elim}
-use mathlib.Core.List.{List, [], _∷_}
-use Prim.Native.Nat.{ℕ, _+_, _/_, _%_, _<_, _≤_}
+use mathlib.Core.List.{List}
+use Prim.Native.Nat.{ℕ, _/_, _%_, _<_, _≤_}
 use native.Mathlib.Omega.{arith}
 use lib.Dec.{eqb}
 use lib.ListN.{getD, take}
-use Rattle.bits.specs.Answer.{Answer, accepted}
+use Rattle.bits.specs.Answer.{Answer}
 use Rattle.bits.specs.Digits.{Below}
 use Rattle.bits.proofs.Tests.{either-way}
 use Rattle.bits.proofs.Digits.{below-drop, below-tab}

@@ -30,7 +30,7 @@ use Rattle.sound.proofs.Stands.{sample-is, mark-is, channel-stands}
 use Rattle.nearest.specs.declared.Extra.{Extra}
 use Rattle.nearest.specs.Extra.{extraAnswer}
 use Rattle.nearest.proofs.ExtraBits.{extra-word}
-use Rattle.beside.specs.Beside.{extraBits, extraOf, factorOr, sideOf, factorRead, numberAt, placesAt, wordAt, programmesOf, sixAndSync}
+use Rattle.beside.specs.Beside.{extraBits, extraOf, factorOr, sideOf, factorRead, wordAt, programmesOf, sixAndSync}
 use Rattle.beside.specs.Document.{OnlyScale}
 use Rattle.beside.proofs.Scales.{extra-bits-below}
 use Rattle.beside.proofs.Stands.{five-missing}
@@ -188,15 +188,18 @@ module _ (q : ℕ) (low : 1 ≤ q) (high : q ≤ 16) (sf sf' : List ℕ) (d : On
   unfolding programmesOf
   words-same = tab-ext 16 (wordAt sf) (wordAt sf') word-at
 
+  -- whatever is told of each programme
+  each-same : (told : Extra → ℕ) (p : ℕ) → p < 16 → p ≢ q - 1 → getD (tabulate 16 (λ r. told (extraOf sf r))) p 0 ≡ getD (tabulate 16 (λ r. told (extraOf sf' r))) p 0
+  each-same told p l n =
+      getD-tab 16 (λ r. told (extraOf sf r)) p 0 l ∙ ap told (other-same p l n) ∙ sym (getD-tab 16 (λ r. told (extraOf sf' r)) p 0 l)
+
   numbers-same : (p : ℕ) → p < 16 → p ≢ q - 1 → getD (programmesOf sf .numbers) p 0 ≡ getD (programmesOf sf' .numbers) p 0
   unfolding programmesOf
-  numbers-same p l n =
-      getD-tab 16 (numberAt sf) p 0 l ∙ ap (λ (x : Extra). x .number) (other-same p l n) ∙ sym (getD-tab 16 (numberAt sf') p 0 l)
+  numbers-same = each-same (λ x. x .number)
 
   places-same : (p : ℕ) → p < 16 → p ≢ q - 1 → getD (programmesOf sf .places) p 0 ≡ getD (programmesOf sf' .places) p 0
   unfolding programmesOf
-  places-same p l n =
-      getD-tab 16 (placesAt sf) p 0 l ∙ ap (λ (x : Extra). x .places) (other-same p l n) ∙ sym (getD-tab 16 (placesAt sf') p 0 l)
+  places-same = each-same (λ x. x .places)
 
   factors-off : OffProgramme q (programmesOf sf .factors) (programmesOf sf' .factors)
   unfolding programmesOf factorRead

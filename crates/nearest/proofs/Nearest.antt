@@ -74,7 +74,7 @@ module _ (bits : List ℕ) where
         places = sym (pair-away bits n);
         others = λ l r a b o.
             let less : away bits n < away bits (l * 8 + r) =
-            h .nearer (l * 8 + r) (omega arith) (λ e. o (sym (left-of l r b) ∙ ap (λ (k : ℕ). k / 8) e, sym (right-of l r b) ∙ ap (λ (k : ℕ). k % 8) e)) in
+            h .nearer (l * 8 + r) (omega arith) (λ e. o (omega arith, omega arith)) in
             let their : away bits (l * 8 + r) ≡ differs l r bits = away-of bits l r b in
             omega arith;
       }
@@ -92,11 +92,7 @@ module _ (bits : List ℕ) where
         other = t .l' * 8 + t .r';
         one-within = omega arith;
         other-within = omega arith;
-        differ = λ e.
-            t .other (
-              sym (left-of (t .l') (t .r') d) ∙ ap (λ (k : ℕ). k / 8) e ∙ left-of (t .l) (t .r) b,
-              sym (right-of (t .l') (t .r') d) ∙ ap (λ (k : ℕ). k % 8) e ∙ right-of (t .l) (t .r) b,
-            );
+        differ = λ e. t .other (omega arith, omega arith);
         equal = their ∙ t .equal ∙ sym mine;
         none-nearer = λ m h.
             let low : differs (t .l) (t .r) bits ≤ differs (m / 8) (m % 8) bits = t .none-nearer (m / 8) (m % 8) (omega arith) (omega arith) in
@@ -158,8 +154,7 @@ module _ (bits : List ℕ) where
 
 pub fifteen-apart : (l r l' r' : ℕ) → l ≤ 7 → r ≤ 7 → l' ≤ 7 → r' ≤ 7 → Other l r l' r' → 15 ≤ distance (sent l r) (sent l' r')
 fifteen-apart l r l' r' a b c d o =
-    let apart = fifteen (l * 8 + r) (l' * 8 + r') (omega arith) (omega arith)
-    (λ e. o (sym (left-of l' r' d) ∙ ap (λ (k : ℕ). k / 8) (sym e) ∙ left-of l r b, sym (right-of l' r' d) ∙ ap (λ (k : ℕ). k % 8) (sym e) ∙ right-of l r b)) in
+    let apart = fifteen (l * 8 + r) (l' * 8 + r') (omega arith) (omega arith) (λ e. o (omega arith, omega arith)) in
     rw (left-of l r b, right-of l r b, left-of l' r' d, right-of l' r' d) at apart
 
 -- ---- what was sent comes back

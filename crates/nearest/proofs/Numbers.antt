@@ -23,7 +23,6 @@ use lib.Seq.{getD-take, getD-drop, length-take-le}
 use Rattle.bits.specs.Answer.{accepted}
 use Rattle.bits.specs.Bits.{ones, areBits}
 use Rattle.bits.specs.Digits.{value, digits, Below}
-use Rattle.bits.specs.Table.{tabulate}
 use Rattle.bits.proofs.Bits.{bits-below, ones-append}
 use Rattle.bits.proofs.Digits.{below-append, digits-value, below-tab, below-getD, value-below, value-tab, value-tab-below}
 use Rattle.bits.proofs.Table.{length-tab, getD-tab, tab-ext, tab-getD}

@@ -21,7 +21,7 @@ pub struct Extra {
     pub number: u8,
     pub left: u8,
     pub right: u8,
-    // of the 42, in which the scale word of these factors differs
+    // in how many of the 42 the scale word of these factors, sent three times, differs
     pub places: u8,
     pub word: u32,
 }
