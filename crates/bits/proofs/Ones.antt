@@ -2,16 +2,20 @@
 --     ones-more         ones of a table with one entry more
 --     ones-take         the first entries have no more ones than all
 --     ones-window       entries that are even outside w places in a row: at most w ones
+--     count-digits      the ones of a number, as the processor counts them, are those of its binary digits
 -- Assumes nothing.
-use mathlib.Core.Path.{_≡_, refl}
+use mathlib.Core.Path.{_≡_, refl, ap, _∙_}
 use mathlib.Core.List.{List, [], _∷_, _++_}
-use Prim.Native.Nat.{ℕ, zero, suc, _+_, _-_, _%_, _<_, _≤_}
+use Prim.Native.Nat.{ℕ, zero, suc, _+_, _-_, _/_, _%_, _^_, _<_, _≤_}
 use native.Mathlib.Decide.{decLe}
 use native.Mathlib.Numerals.{add-one}
 use native.Mathlib.Omega.{arith}
+use lib.Count as Count
 use lib.ListN.{take}
+use lib.Pow.{shr-lt}
 use Rattle.bits.specs.Table.{tabulate}
 use Rattle.bits.specs.Bits.{ones}
+use Rattle.bits.specs.Digits.{digits}
 use Rattle.bits.proofs.Bits.{ones-append}
 
 pub ones-more : (n : ℕ) (f : ℕ → ℕ) → ones (tabulate (n + 1) f) ≡ ones (tabulate n f) + f n % 2
@@ -44,3 +48,16 @@ module _ (f : ℕ → ℕ) (s w : ℕ) (before : (j : ℕ) → j < s → f j % 2
 
   pub ones-window : (n : ℕ) → ones (tabulate n f) ≤ w
   ones-window n = counted n .1
+
+-- ---- the ones of a number
+none-set : Count.ones 0 ≡ 0
+unfolding Count.ones Count.onesIn
+none-set = refl
+
+pub count-digits : (n x : ℕ) → x < 2 ^ n → Count.ones x ≡ ones (digits 2 n x)
+unfolding ones digits
+count-digits zero x h = let z : x ≡ 0 = omega arith in rw z none-set
+count-digits (suc n) x h =
+    Count.ones-step x
+    ∙ ap (λ (k : ℕ). x % 2 + k) (count-digits n (x / 2) (shr-lt n 1 (rw (add-one n) h)))
+    ∙ rw (ones-append (digits 2 n (x / 2)) (x % 2 ∷ [])) (omega arith)

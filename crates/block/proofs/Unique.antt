@@ -23,8 +23,8 @@ told-back (Mended n) = refl
 told-back Bad = refl
 told-back OutOfRange = refl
 
-pub read-unique : (block : List ℕ) (r r' : BlockRead) → IsRead block r → IsRead block r' → r ≡ r'
-read-unique block r r' p q =
+pub read-unique : (radius : ℕ) (block : List ℕ) (r r' : BlockRead) → IsRead radius block r → IsRead radius block r' → r ≡ r'
+read-unique radius block r r' p q =
     ap₂ (λ (reading : BlockReading) (bits : List ℕ). record { reading = reading; bits = bits })
     (same-through told (λ a. first spoken OutOfRange (a .values)) told-back (r .reading) (r' .reading) (p .answer) (q .answer))
     (same (p .bits) (q .bits))

@@ -1,5 +1,5 @@
 -- What document 01 prints of a block ("The block", "Numbers given").
---     reading block     the number that reading gives
+--     reading block     the number that reading gives, at the ordinary radius
 --     printedRows       THE TABLE: the upper 11 bits of four codes, their lower 3, by channel and upper bits first; an entry that is no bit
 use mathlib.Core.List.{List, [], _∷_, _++_}
 use Prim.Native.Nat.{ℕ}
@@ -7,10 +7,11 @@ use lib.IntN.{pos, negℤ}
 use lib.ListN.{replicate}
 use Rattle.bits.specs.Printed.{row, Row, _prints_}
 use Rattle.block.specs.Layout.{sound, rest}
+use Rattle.reading.specs.Reading.{ordinary}
 use Rattle.block.specs.Read.{saidOf}
 
 abbrev pub reading : List ℕ → List ℕ
-reading block = saidOf block .number ∷ []
+reading block = saidOf ordinary block .number ∷ []
 
 unfoldable pub printedRows : List Row
 printedRows =

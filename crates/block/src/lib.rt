@@ -2,10 +2,12 @@
 use reading::Places;
 ghost use mathlib.Core.Path.{_≡_};
 ghost use Prim.Native.Nat.{_<_};
-ghost use Rattle.reading.specs.Wrong.{turn};
-ghost use Rattle.block.specs.Read.{IsRead};
+ghost use mathlib.Core.Bool.{true};
+ghost use Rattle.reading.specs.Reading.{isRadius};
+ghost use Rattle.reading.specs.Wrong.{turn, answer, wrongPlaces};
+ghost use Rattle.block.specs.Read.{isReadable, IsRead};
 
-// What reading says of a block: with number 0 clean, mended with 1 or 2 places turned, or bad; or number 2.
+// What reading says of a block: with number 0 clean, mended with 1, 2 or 3 places turned, or bad; or number 2.
 pub enum BlockReading {
     Clean,
     Mended(u8),
@@ -28,18 +30,41 @@ fn turned(bits: [u8; 77], place: usize) -> [u8; 77]
     out
 }
 
-// Bad is a reading and no refusal: such a block is handed on as it was received. The last 14 bits are never changed.
-pub fn read(bits: [u8; 77]) -> BlockRead
-    ensures { λ r. ⌜ IsRead bits r ⌝ }
+// Whether a block can be read so: at a radius of 2 or 3, and each entry is 0 or 1.
+fn readable(radius: u8, bits: &[u8; 77]) -> bool
+    ensures { λ r. ⌜ r ≡ isReadable radius (now (bits .entry)) ⌝ }
 {
-    if !bits::are_bits(&bits) {
+    if reading::is_radius(radius) {
+        return bits::are_bits(bits);
+    }
+    false
+}
+
+// The places that leave a remainder, at most as many as the radius.
+fn wrong(radius: u8, remainder: u32) -> Places
+    requires { ⌜ isRadius radius ≡ true ⌝ }
+    ensures { λ r. ⌜ answer r ≡ wrongPlaces radius remainder ⌝ }
+{
+    let singles = reading::columns();
+    let pairs = pairs::pairs();
+    let places = pairs::places();
+    let starts = pairs::starts();
+    lookup::places_by(&singles, &pairs, &places, &starts, radius, remainder)
+}
+
+// At radius 3 a block is mended where a code word lies at most three places away, else at most two (document 02, P9). Bad is a reading and no refusal: such a
+// block is handed on as it was received. The last 14 bits are never changed.
+pub fn read(radius: u8, bits: [u8; 77]) -> BlockRead
+    ensures { λ r. ⌜ IsRead radius bits r ⌝ }
+{
+    if !readable(radius, &bits) {
         return BlockRead {
             reading: BlockReading::OutOfRange,
             bits,
         };
     }
     let remainder = code::block_remainder(&bits[0..63]);
-    match reading::places_of(remainder) {
+    match wrong(radius, remainder) {
         Places::Zero => BlockRead {
             reading: BlockReading::Clean,
             bits,
@@ -51,6 +76,10 @@ pub fn read(bits: [u8; 77]) -> BlockRead
         Places::Two(i, j) => BlockRead {
             reading: BlockReading::Mended(2),
             bits: turned(turned(bits, i), j),
+        },
+        Places::Three(i, j, k) => BlockRead {
+            reading: BlockReading::Mended(3),
+            bits: turned(turned(turned(bits, i), j), k),
         },
         Places::Nowhere => BlockRead {
             reading: BlockReading::Bad,

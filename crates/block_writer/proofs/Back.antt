@@ -29,6 +29,7 @@ use Rattle.code.proofs.Words.{encode-word}
 use Rattle.sample.specs.Sample.{isCode}
 use Rattle.sample.specs.Pattern.{codeBits, bitsCode}
 use Rattle.sample.proofs.Patterns.{signed-inside, code-bits-back, bits-code-back, length-codeBits}
+use Rattle.reading.specs.Reading.{largestRadius}
 use Rattle.block.specs.Layout.{sound, rest, blockWith, fourteen, codePlace}
 use Rattle.block.specs.Read.{clean, protected, saidOf, handedOn}
 use Rattle.block.specs.Demand.{IsBlock}
@@ -63,13 +64,13 @@ module _ (codes : List ℤ) (extra : List ℕ) (four : length codes ≡ 4) (two 
             (below-append 2 (rest codes) extra (below-rest codes) (bits-below extra bits)));
       }
 
-  pub written-clean : saidOf block ≡ accepted (clean ∷ [])
+  pub written-clean : (radius : ℕ) → radius ≤ largestRadius → saidOf radius block ≡ accepted (clean ∷ [])
   unfolding blockWith
-  written-clean =
-      word-clean block is-block (subst CodeWord (sym (take-at (encode blockGenerator (sound codes)) (rest codes ++ extra) 63 (length-63 codes extra four))) word)
+  written-clean radius small =
+      word-clean radius small block is-block (subst CodeWord (sym (take-at (encode blockGenerator (sound codes)) (rest codes ++ extra) 63 (length-63 codes extra four))) word)
 
-  pub written-kept : handedOn block ≡ block
-  written-kept = clean-hands block written-clean
+  pub written-kept : (radius : ℕ) → radius ≤ largestRadius → handedOn radius block ≡ block
+  written-kept radius small = clean-hands radius block (written-clean radius small)
 
   -- bit k of channel c, at its place
   at-upper : (c k : ℕ) → c < 4 → k < 11 → getD block (11 * c + k) 0 ≡ getD (codeBits (code c)) k 0
@@ -180,7 +181,7 @@ module _ (block : List ℕ) (b : IsBlock block) where
       written-is read (extraAt block) good (below-bits (extraAt block) (below-drop 2 75 block below))
       ∙ ap (λ (l : List ℕ). record { number = 0; bits = l }) (clean-block w)
 
-pub clean-written : (block : List ℕ) → length block ≡ 77 → saidOf block ≡ accepted (clean ∷ []) → writtenBlock (codesAt block) (extraAt block) ≡ record { number = 0; bits = block }
-clean-written block size e =
-    let b : IsBlock block = record { size = size; bits = heard block clean e .0 } in
-    clean-is block b (clean-word block b e)
+pub clean-written : (radius : ℕ) → radius ≤ largestRadius → (block : List ℕ) → length block ≡ 77 → saidOf radius block ≡ accepted (clean ∷ []) → writtenBlock (codesAt block) (extraAt block) ≡ record { number = 0; bits = block }
+clean-written radius small block size e =
+    let b : IsBlock block = record { size = size; bits = heard radius block clean e .0 } in
+    clean-is block b (clean-word radius small block b e)

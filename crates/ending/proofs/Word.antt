@@ -1,6 +1,6 @@
 -- Words of endings.
 --     told-word       what was put for a way to end is what is said of it
---     kindOf e        which of the eight ways to end this is
+--     kindOf e        which of the nine ways to end this is
 --     words-apart     two ways to end that are said in the same word are of one kind
 --     error-fits      a line of an error of 32 bits has at most 12 letters more than its word, which is `read` or `write`
 -- Assumes nothing.
@@ -16,7 +16,7 @@ use Rattle.text.specs.Digits.{blank, decimal}
 use Rattle.text.proofs.Decimal.{decimal-short}
 use Rattle.text.specs.Page.{Page, putText}
 use Rattle.ending.specs.declared.Ended.{Ended}
-use Rattle.ending.specs.declared.Ended.the-variants.{Whole, Short, HeaderShort, CountTooLarge, OffsetTooSmall, HasSummary, NotRead, NotWritten}
+use Rattle.ending.specs.declared.Ended.the-variants.{Whole, Short, HeaderShort, CountTooLarge, OffsetTooSmall, HasSummary, NoRadius, NotRead, NotWritten}
 use Rattle.ending.specs.Word.{errorLine, wordOf}
 
 pub told-word : (p start : Page) (e e' : Ended) → e ≡ e' → p ≡ putText start (wordOf e') → p ≡ putText start (wordOf e)
@@ -31,6 +31,7 @@ kindOf OffsetTooSmall = 4
 kindOf HasSummary = 5
 kindOf (NotRead e) = 6
 kindOf (NotWritten e) = 7
+kindOf NoRadius = 8
 
 -- the first two letters tell
 abbrev firstTwo : List ℕ → ℕ
@@ -43,7 +44,8 @@ heard w =
     (cond (eqb (firstTwo w) (firstTwo (letters "header"))) 2
     (cond (eqb (firstTwo w) (firstTwo (letters "count"))) 3
     (cond (eqb (firstTwo w) (firstTwo (letters "offset"))) 4
-    (cond (eqb (firstTwo w) (firstTwo (letters "summary"))) 5 (cond (eqb (firstTwo w) (firstTwo (letters "read"))) 6 7))))))
+    (cond (eqb (firstTwo w) (firstTwo (letters "summary"))) 5
+    (cond (eqb (firstTwo w) (firstTwo (letters "radius"))) 8 (cond (eqb (firstTwo w) (firstTwo (letters "read"))) 6 7)))))))
 
 heard-kind : (e : Ended) → heard (wordOf e) ≡ kindOf e
 unfolding letters errorLine
@@ -53,6 +55,7 @@ heard-kind HeaderShort = refl
 heard-kind CountTooLarge = refl
 heard-kind OffsetTooSmall = refl
 heard-kind HasSummary = refl
+heard-kind NoRadius = refl
 heard-kind (NotRead e) = refl
 heard-kind (NotWritten e) = refl
 

@@ -13,7 +13,7 @@ use lib.ListN.{length, getD}
 use Rattle.bits.specs.Letters.{letters}
 use Rattle.text.specs.Digits.{blank, decimal}
 use Rattle.ending.specs.declared.Ended.{Ended}
-use Rattle.ending.specs.declared.Ended.the-variants.{Whole, Short, HeaderShort, CountTooLarge, OffsetTooSmall, HasSummary, NotRead, NotWritten}
+use Rattle.ending.specs.declared.Ended.the-variants.{Whole, Short, HeaderShort, CountTooLarge, OffsetTooSmall, HasSummary, NoRadius, NotRead, NotWritten}
 
 unfoldable pub endingOf : ℕ → ℕ → Ended
 endingOf promised read = cond (eqb promised read) Whole Short
@@ -31,6 +31,7 @@ wordOf HeaderShort = letters "header\n"
 wordOf CountTooLarge = letters "count\n"
 wordOf OffsetTooSmall = letters "offset\n"
 wordOf HasSummary = letters "summary\n"
+wordOf NoRadius = letters "radius\n"
 wordOf (NotRead e) = errorLine (letters "read") e
 wordOf (NotWritten e) = errorLine (letters "write") e
 

@@ -14,6 +14,8 @@ pub enum Ended {
     CountTooLarge,
     OffsetTooSmall,
     HasSummary,
+    // the argument for the radius is neither 2 nor 3
+    NoRadius,
     // a read or a write failed, with C's number of the error
     NotRead(u32),
     NotWritten(u32),
@@ -58,6 +60,7 @@ pub fn put_word(out: &mut [u8], to: usize, ended: Ended) -> usize
         Ended::CountTooLarge => text::put_all(out, to, b"count\n"),
         Ended::OffsetTooSmall => text::put_all(out, to, b"offset\n"),
         Ended::HasSummary => text::put_all(out, to, b"summary\n"),
+        Ended::NoRadius => text::put_all(out, to, b"radius\n"),
         Ended::NotRead(error) => put_error(out, to, b"read", error),
         Ended::NotWritten(error) => put_error(out, to, b"write", error),
     }

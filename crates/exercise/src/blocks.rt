@@ -23,27 +23,28 @@ pub(crate) fn write(line: &[u8], at: usize, mut page: Page) -> Page {
     page.row(&bits)
 }
 
-// The number that stands for a reading behind number 0: clean, mended with 1 or 2, bad; 4 where the bits were out of range.
+// The number that stands for a reading behind number 0: clean, mended with 1, 2 or 3, bad; 5 where the radius or a bit was out of range.
 fn told(reading: BlockReading) -> u8 {
     match reading {
         BlockReading::Clean => 0,
         BlockReading::Mended(places) => places,
-        BlockReading::Bad => 3,
-        BlockReading::OutOfRange => 4,
+        BlockReading::Bad => 4,
+        BlockReading::OutOfRange => 5,
     }
 }
 
 pub(crate) fn read(line: &[u8], at: usize, mut page: Page) -> Page {
-    let block = words::read_block(line, at);
+    let radius = words::read_small(line, at);
+    let block = words::read_block(line, radius.next);
     if !words::ended(line, block.next) {
         return page;
     }
     let bits = block.bits;
-    let answer = block::read(bits);
+    let answer = block::read(radius.value, bits);
     let reading = answer.reading;
     let stood = answer.bits;
     let number = told(reading);
-    if number == 4 {
+    if number == 5 {
         return page.put(b'2');
     }
     page = page.put(b'0');

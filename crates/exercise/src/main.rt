@@ -86,7 +86,7 @@ fn take(piece: &[u8], line: &mut [u8], before: Held) -> Held {
 
 // A proved loop has to end, and nothing says that the input does: so the turns are counted, from a number that no run uses up.
 fn main() {
-    let mut line = [0u8; 772];
+    let mut line = [0u8; 776];
     let mut held = Held {
         count: 0,
         spilled: false,

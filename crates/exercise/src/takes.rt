@@ -94,7 +94,7 @@ fn put_sound(mut page: Page, samples: &[i16; 4096], marks: &[u8; 4096]) -> Page 
 }
 
 // The lists hold something before the call, so that a refusal that writes is seen.
-fn take_lent(state: State, lengths: Lengths, bytes: &[u8], mut page: Page) -> Page
+fn take_lent(radius: u8, state: State, lengths: Lengths, bytes: &[u8], mut page: Page) -> Page
     requires { ⌜ (lengths .bytes ≤ 10240) × (lengths .samples ≤ 4096) × (lengths .marks ≤ 4096) × (length (now bytes) ≡ 10240) ⌝ }
 {
     let n = lengths.bytes;
@@ -102,13 +102,14 @@ fn take_lent(state: State, lengths: Lengths, bytes: &[u8], mut page: Page) -> Pa
     let m = lengths.marks;
     let mut samples = [-21555i16; 4096];
     let mut marks = [165u8; 4096];
-    let taken = state.take(&bytes[0..n], &mut samples[0..s], &mut marks[0..m]);
+    let taken = state.take(radius, &bytes[0..n], &mut samples[0..s], &mut marks[0..m]);
     page = put_taken(page, taken);
     put_sound(page, &samples, &marks)
 }
 
 pub(crate) fn take(line: &[u8], at: usize, page: Page) -> Page {
-    let lengths = read_lengths(line, at);
+    let radius = words::read_small(line, at);
+    let lengths = read_lengths(line, radius.next);
     let seed = words::read_number(line, lengths.next, words::MOST);
     let mut recipe = [0u8; 13];
     let behind = words::read_hex(line, seed.next, &mut recipe);
@@ -118,5 +119,5 @@ pub(crate) fn take(line: &[u8], at: usize, page: Page) -> Page {
     }
     let state = read.state;
     let bytes = recipes::made(seed.value, &recipe);
-    take_lent(state, lengths, &bytes, page)
+    take_lent(radius.value, state, lengths, &bytes, page)
 }

@@ -8,7 +8,7 @@ use Rattle.text.specs.declared.Placed.{Placed}
 use Rattle.text.proofs.Unique.{entered-unique}
 use Rattle.folder.specs.Files.{aboutText}
 
-module _ (out out' : List ℕ) (r r' : Placed) (start : Page) (name id : List ℕ) where
+module _ (out out' : List ℕ) (r r' : Placed) (start : Page) (name : List ℕ) (radius : ℕ) (id : List ℕ) where
   pub put-about-unique :
-      entered r out ≡ enteredText start (aboutText name id) → entered r' out' ≡ enteredText start (aboutText name id) → (out ≡ out') × (r ≡ r')
-  put-about-unique = entered-unique out out' r r' (enteredText start (aboutText name id))
+      entered r out ≡ enteredText start (aboutText name radius id) → entered r' out' ≡ enteredText start (aboutText name radius id) → (out ≡ out') × (r ≡ r')
+  put-about-unique = entered-unique out out' r r' (enteredText start (aboutText name radius id))

@@ -2,13 +2,14 @@
 --     trackName q rest      a file of programme q + 1: the programme's number in two digits, and what file it is
 --     otherName f           the four files that are of no programme, by their numbers from 48 on
 --     fileName f            the name of each of the 52 files, by its number from 0 on
---     aboutText name id     the lines of about.txt: the reel by its name, the radius, and the commit
+--     aboutText name radius id      the lines of about.txt: the reel by its name, the radius, and the commit
 -- `names-printed` in proofs/Printed.antt has all 52 names.
 use Prim.Native.Nat.{ℕ, _+_, _-_, _/_, _%_}
 use mathlib.Core.Bool.{cond}
 use mathlib.Core.List.{List, [], _∷_, _++_}
 use lib.Dec.{eqb, ltb}
 use Rattle.bits.specs.Letters.{letters}
+use Rattle.text.specs.Digits.{blank, decimal}
 
 unfoldable pub trackName : ℕ → List ℕ → List ℕ
 trackName q rest = (48 + (q + 1) / 10) ∷ (48 + (q + 1) % 10) ∷ rest
@@ -23,5 +24,5 @@ fileName f =
     (trackName f (letters ".wav"))
     (cond (ltb f 32) (trackName (f - 16) (letters ".marks.wav")) (cond (ltb f 48) (trackName (f - 32) (letters ".labels.txt")) (otherName f)))
 
-unfoldable pub aboutText : List ℕ → List ℕ → List ℕ
-aboutText name id = letters "reel " ++ (name ++ (letters "\nradius 2\ncommit " ++ (id ++ (10 ∷ []))))
+unfoldable pub aboutText : List ℕ → ℕ → List ℕ → List ℕ
+aboutText name radius id = letters "reel " ++ (name ++ (letters "\nradius" ++ ((blank ∷ decimal radius) ++ (letters "\ncommit " ++ (id ++ (10 ∷ []))))))

@@ -47,27 +47,29 @@ pub fn put_name(out: &mut [u8], to: usize, file: u8) -> usize
     put_other(out, to, file)
 }
 
-fn put_lines(out: &mut [u8], to: usize, reel: &[u8], commit: &[u8]) -> usize
-    ensures { λ r. ⌜ page (now (out .exit)) r ≡ putText (page (now (out .entry)) to) (aboutText (now (reel .entry)) (now (commit .entry))) ⌝ }
+fn put_lines(out: &mut [u8], to: usize, reel: &[u8], radius: u8, commit: &[u8]) -> usize
+    ensures { λ r. ⌜ page (now (out .exit)) r ≡ putText (page (now (out .entry)) to) (aboutText (now (reel .entry)) radius (now (commit .entry))) ⌝ }
 {
     let first = text::put_all(out, to, b"reel ");
     let name = text::put_all(out, first, reel);
-    let second = text::put_all(out, name, b"\nradius 2\ncommit ");
-    let id = text::put_all(out, second, commit);
+    let second = text::put_all(out, name, b"\nradius");
+    let number = text::put_next(out, second, radius as u64);
+    let third = text::put_all(out, number, b"\ncommit ");
+    let id = text::put_all(out, third, commit);
     text::put(out, id, b'\n')
 }
 
-// The lines of `about.txt`, for a reel by its name and the commit of the programs. They are put first where there is no room for them, to learn where
+// The lines of `about.txt`, for a reel by its name, the radius that it was read at and the commit of the programs. They are put first where there is no room for them, to learn where
 // they end.
-pub fn put_about(out: &mut [u8], to: usize, reel: &[u8], commit: &[u8]) -> Placed
-    ensures { λ r. ⌜ entered r (now (out .exit)) ≡ enteredText (page (now (out .entry)) to) (aboutText (now (reel .entry)) (now (commit .entry))) ⌝ }
+pub fn put_about(out: &mut [u8], to: usize, reel: &[u8], radius: u8, commit: &[u8]) -> Placed
+    ensures { λ r. ⌜ entered r (now (out .exit)) ≡ enteredText (page (now (out .entry)) to) (aboutText (now (reel .entry)) radius (now (commit .entry))) ⌝ }
 {
     let mut none = [0u8; 1];
-    let end = put_lines(&mut none, to, reel, commit);
+    let end = put_lines(&mut none, to, reel, radius, commit);
     let placed = Placed::within(out.len(), to, end);
     if placed.number != 0 {
         return placed;
     }
-    put_lines(out, to, reel, commit);
+    put_lines(out, to, reel, radius, commit);
     placed
 }

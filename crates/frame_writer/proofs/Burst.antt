@@ -20,6 +20,7 @@ use Rattle.remainder.specs.Polynomial.{_⊕_}
 use Rattle.remainder.proofs.Sum.{length-⊕, below-⊕, take-⊕}
 use Rattle.code.specs.Words.{CodeWord, encode}
 use Rattle.code.proofs.Distance.{distance-changed}
+use Rattle.reading.specs.Reading.{ordinary}
 use Rattle.reading.specs.Demand.{sent}
 use Rattle.block.specs.Read.{Said, bad, saidWith, saidOf, handedOn}
 use Rattle.block.specs.Demand.{Sent, received}
@@ -96,9 +97,9 @@ module _ (x m : List ℕ) (size : length x ≡ 77) (places : length m ≡ 77) (b
         near = rw (distance-changed x m (size ∙ sym places)) two;
         not-bad = λ e.
             never-bad (ones turned)
-            (ap (λ (l : List Said). getD l 0 bad) (accepted-same (sym (third .number sound turned other is-sent few) ∙ ap saidOf (sym arrives) ∙ e)));
-        back = ap (λ (l : List ℕ). take 44 (handedOn l)) arrives ∙ third .back sound turned other is-sent few;
-        others = ap (λ (l : List ℕ). drop 63 (handedOn l)) arrives ∙ third .others sound turned other is-sent;
+            (ap (λ (l : List Said). getD l 0 bad) (accepted-same (sym (third .number sound turned other is-sent few) ∙ ap (saidOf ordinary) (sym arrives) ∙ e)));
+        back = ap (λ (l : List ℕ). take 44 (handedOn ordinary l)) arrives ∙ third .back sound turned other is-sent few;
+        others = ap (λ (l : List ℕ). drop 63 (handedOn ordinary l)) arrives ∙ third .others sound turned other is-sent;
       }
 
 -- ---- a written frame, damaged

@@ -23,13 +23,13 @@ fn write_listing(fds: [i32; 52], header: HeaderRead, totals: Totals) -> Fault {
 }
 
 // The name and the commit are the arguments behind the first.
-fn write_about(fds: [i32; 52]) -> Fault {
+fn write_about(fds: [i32; 52], radius: u8) -> Fault {
     let mut reel = io::buffer();
     let length = os::arg(2, &mut reel);
     let mut commit = [0u8; 128];
     let letters = os::arg(3, &mut commit);
     let mut out = [0u8; 4352];
-    let placed = folder::put_about(&mut out, 0, &reel[..length], &commit[..letters]);
+    let placed = folder::put_about(&mut out, 0, &reel[..length], radius, &commit[..letters]);
     write_placed(fds, 50, &out, placed.number, placed.end)
 }
 
@@ -57,7 +57,7 @@ pub fn finish(
     if headers.error != 0 {
         return headers;
     }
-    let about = write_about(fds);
+    let about = write_about(fds, going.radius);
     if about.error != 0 {
         return about;
     }

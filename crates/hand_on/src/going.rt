@@ -14,7 +14,10 @@ use tally::Totals;
 use tape::Counted;
 
 pub struct Going {
+    // at which every superframe is taken
+    pub radius: u8,
     pub state: State,
+    // by the ordinary readings, whatever the radius
     pub totals: Totals,
     pub tracks: [Stepped; 16],
     pub noted: Noted,
@@ -31,11 +34,12 @@ pub struct Batch {
 
 impl Going {
     // Before the first superframe.
-    pub fn none() -> Self {
+    pub fn none(radius: u8) -> Self {
         let state = State::fresh();
         let tracks = stretch::none();
         let noted = names::none();
         Going {
+            radius,
             state,
             totals: Totals::none(),
             tracks,
@@ -44,7 +48,7 @@ impl Going {
     }
 }
 
-fn counted(going: Going, taken: Taken) -> Totals {
+fn counted(going: Going, taken: Taken, bytes: &[u8; 5120]) -> Totals {
     let totals = going.totals;
     let blocks = taken.blocks;
     let counted = Counted {
@@ -52,8 +56,8 @@ fn counted(going: Going, taken: Taken) -> Totals {
         wrong: taken.wrong,
         blocks,
     };
-    let added = totals.add(counted);
-    added.next
+    let listed = totals.list(going.radius, counted, bytes);
+    listed.next
 }
 
 struct Standing {
@@ -83,7 +87,14 @@ struct Told {
 }
 
 // What it does to the stretches, the names and the totals.
-fn tell(fds: [i32; 52], k: u32, going: Going, taken: Taken, marks: &[u8]) -> Told
+fn tell(
+    fds: [i32; 52],
+    k: u32,
+    going: Going,
+    taken: Taken,
+    marks: &[u8],
+    bytes: &[u8; 5120],
+) -> Told
     requires { ⌜ k < 4294967295 ⌝ }
 {
     let before = going.state;
@@ -97,10 +108,11 @@ fn tell(fds: [i32; 52], k: u32, going: Going, taken: Taken, marks: &[u8]) -> Tol
     let noted = going.noted;
     let heard = names::hear(fds, noted, k + 1, before, taken);
     let state = taken.next;
-    let totals = counted(going, taken);
+    let totals = counted(going, taken, bytes);
     let tracks = stepped.tracks;
     let noted = heard.noted;
     let next = Going {
+        radius: going.radius,
         state,
         totals,
         tracks,
@@ -136,9 +148,9 @@ fn hand_superframe(
     let mut marks = [0u8; 2048];
     let going = last.going;
     let state = going.state;
-    let taken = state.take(bytes, &mut samples, &mut marks);
+    let taken = state.take(going.radius, bytes, &mut samples, &mut marks);
     let there = put(pages, last.end, k, taken, &samples, &marks);
-    let told = tell(fds, k, going, taken, &marks);
+    let told = tell(fds, k, going, taken, &marks, bytes);
     let next = told.going;
     let fault = files::first(there.fault, told.fault);
     Taking {

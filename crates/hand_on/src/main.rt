@@ -1,6 +1,6 @@
 // Hands on the reel on standard input: fills the folder that it was started in with the files of docs/HAND-ON.md, and says how that ended.
-//     hand_on DESCRIPTOR REEL COMMIT
-// REEL and COMMIT stand in `about.txt` as they are given. Where a file fails, its name stands behind the word.
+//     hand_on DESCRIPTOR REEL COMMIT RADIUS
+// The radius is 2 or 3, and without it 2. REEL and COMMIT stand in `about.txt` as they are given. Where a file fails, its name stands behind the word.
 mod files; // files.rt: the 52 files, made, written and on the disk
 mod going; // going.rt: what goes on from superframe to superframe
 mod pages; // pages.rt: the sound and the marks of some superframes, before they are written
@@ -43,8 +43,8 @@ struct Superframes {
 }
 
 // The superframes that come, at most as many as the header promises.
-fn hand_superframes(fds: [i32; 52], count: u32) -> Superframes {
-    let mut going = Going::none();
+fn hand_superframes(fds: [i32; 52], count: u32, radius: u8) -> Superframes {
+    let mut going = Going::none(radius);
     let mut done: u32 = 0;
     let mut error: u32 = 0;
     let mut fault = files::fine();
@@ -71,14 +71,14 @@ fn hand_superframes(fds: [i32; 52], count: u32) -> Superframes {
     }
 }
 
-fn hand_reel(header: HeaderRead, count: u32) -> Handed {
+fn hand_reel(header: HeaderRead, count: u32, radius: u8) -> Handed {
     let made = files::make_all(count);
     let missing = made.fault;
     if missing.error != 0 {
         return failed(missing);
     }
     let fds = made.fds;
-    let read = hand_superframes(fds, count);
+    let read = hand_superframes(fds, count, radius);
     let fault = read.fault;
     if fault.error != 0 {
         return failed(fault);
@@ -96,18 +96,22 @@ fn hand_reel(header: HeaderRead, count: u32) -> Handed {
 }
 
 // With a count of 0 nothing more is read.
-fn hand_from(header: HeaderRead, count: u32, offset: u32) -> Handed {
+fn hand_from(header: HeaderRead, count: u32, offset: u32, radius: u8) -> Handed {
     if count == 0 {
-        return hand_reel(header, 0);
+        return hand_reel(header, 0, radius);
     }
     let error = input::skip_to(offset);
     if error != 0 {
         return ends(Ended::NotRead(error));
     }
-    hand_reel(header, count)
+    hand_reel(header, count, radius)
 }
 
 fn hand() -> Handed {
+    let radius = input::radius_at(4);
+    if radius == 0 {
+        return ends(Ended::NoRadius);
+    }
     let start = input::header();
     let error = start.error;
     if error != 0 {
@@ -117,7 +121,7 @@ fn hand() -> Handed {
     let fault = start.fault;
     match header {
         HeaderRead::NoHeader => ends(fault),
-        HeaderRead::Reel { count, offset } => hand_from(header, count, offset),
+        HeaderRead::Reel { count, offset } => hand_from(header, count, offset, radius),
     }
 }
 

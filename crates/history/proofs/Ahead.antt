@@ -57,17 +57,17 @@ none-there : (n : ℕ) → getD missing (n % 32) 0 ≡ 8
 unfolding missing
 none-there n = getD-replicate 32 (n % 32) 8 0 (omega arith)
 
-pub silent : (sf : List ℕ) → (samplesOf sf missing ≡ tabulate 2048 (λ n. pos 0)) × (marksOf sf missing ≡ tabulate 2048 (λ n. 3))
+pub silent : (radius : ℕ) (sf : List ℕ) → (samplesOf radius sf missing ≡ tabulate 2048 (λ n. pos 0)) × (marksOf radius sf missing ≡ tabulate 2048 (λ n. 3))
 unfolding samplesOf marksOf sampleAt markAt soundAt markWith
-silent sf = (
-  tab-ext 2048 (inRows (sampleAt sf missing)) (λ n. pos 0) (λ n l. rw (none-there n)),
-  tab-ext 2048 (inRows (markAt sf missing)) (λ n. 3) (λ n l. rw (none-there n)),
+silent radius sf = (
+  tab-ext 2048 (inRows (sampleAt radius sf missing)) (λ n. pos 0) (λ n l. rw (none-there n)),
+  tab-ext 2048 (inRows (markAt radius sf missing)) (λ n. 3) (λ n l. rw (none-there n)),
 )
 
 silent-at : (s : State) (k : Call s) → s .next ≡ missing → Accepted k → Silent k
 silent-at s k e z =
     let h = heard-at s k missing e z in
-    record { sounds = h .sounds ∙ silent (k .bytes) .0; marks = h .marks ∙ silent (k .bytes) .1 }
+    record { sounds = h .sounds ∙ silent (k .radius) (k .bytes) .0; marks = h .marks ∙ silent (k .radius) (k .bytes) .1 }
 
 -- ---- three calls
 module _ (s : State) (first : Call s) (second : Call (first .answer .next)) where

@@ -14,8 +14,8 @@ use Rattle.history.proofs.Ahead.{heard}
 
 module _ (s : State) (k : Call s) (a : Accepted k) (f b side : ℕ) (f₁ : 1 ≤ f) (f₂ : f ≤ 64) (b₁ : 1 ≤ b) (b₂ : b ≤ 4) (side₁ : 1 ≤ side) (side₂ : side ≤ 2) where
   pub call-stands : (q frame place : ℕ) → Carries f b q frame place
-      → Stands (blockOf (frameAt (k .bytes) (frame - 1)) (b - 1)) (codeNumber place side) (entry (s .next) (channelOf q side) 0)
+      → Stands (k .radius) (blockOf (frameAt (k .bytes) (frame - 1)) (b - 1)) (codeNumber place side) (entry (s .next) (channelOf q side) 0)
       (entry (k .samples) (placeIn f (channelOf q side)) (pos 0)) (entry (k .marks) (placeIn f (channelOf q side)) 0)
   call-stands q frame place h =
       let left = heard s k a in
-      rw (left .sounds, left .marks) (stands (k .bytes) (s .next) f b side f₁ f₂ b₁ b₂ side₁ side₂ q frame place h)
+      rw (left .sounds, left .marks) (stands (k .radius) (k .bytes) (s .next) f b side f₁ f₂ b₁ b₂ side₁ side₂ q frame place h)

@@ -20,8 +20,9 @@ use Rattle.bits.specs.Table.{tabulate}
 use Rattle.bits.proofs.Table.{getD-tab, tab-ext}
 use Rattle.bits.proofs.Tests.{either-way}
 use Rattle.service.specs.declared.Service.{Service}
-use Rattle.block.specs.Mark.{markOf}
-use Rattle.tape.specs.Tape.{synced, readingIn, blockMark, howMany, tallied, blocksOf}
+use Rattle.block.specs.Mark.{markOf, countedAs}
+use Rattle.reading.specs.Reading.{largestRadius}
+use Rattle.tape.specs.Tape.{synced, readingIn, blockMark, howMany, talliedBy, kindIn, blocksOf}
 use Rattle.tape.proofs.Tape.{many-same}
 use Rattle.tape.specs.Document.{entry, channelOf}
 use Rattle.sound.specs.Document.{placeIn}
@@ -35,14 +36,14 @@ use Rattle.beside.specs.Document.{OnlyScale}
 use Rattle.beside.proofs.Scales.{extra-bits-below}
 use Rattle.beside.proofs.Stands.{five-missing}
 use Rattle.superframe.specs.State.{serviceOf, joinedState, stateInRange}
-use Rattle.superframe.specs.Take.{takeNumber, besideWith, refusedWith, takeAnswer}
+use Rattle.superframe.specs.Take.{takable, takeNumber, besideWith, refusedWith, takeAnswer}
 use Rattle.superframe.specs.declared.state.State.{State}
 use Rattle.superframe.specs.declared.taking.Taken.{Taken}
 use Rattle.history.specs.Calls.{Call, Accepted, LostIn, HeardAt}
 use Rattle.history.specs.Alike.{OffProgramme, Alike, LentAlike, SameAnswer, AnswerBut, SoundBut}
 use Rattle.history.proofs.OneScale as one
 use Rattle.history.proofs.Ranges.{take-in-range}
-use Rattle.history.proofs.Answers.{numbered, answer-is, accepted-in-range}
+use Rattle.history.proofs.Answers.{numbered, answer-is, accepted-in-range, accepted-radius}
 use Rattle.history.proofs.Ahead.{heard, taken-programmes, two-ahead}
 use Rattle.history.proofs.Served.{lost-range}
 
@@ -58,7 +59,7 @@ module _ (s : State) (first : Call s) (second : Call (first .answer .next)) (thi
       let ch = channelOf q side - 1 in
       let at : placeIn f (channelOf q side) - 1 ≡ 32 * (f - 1) + ch = omega arith in
       let h = two-ahead s first second third a b c in
-      let st = channel-stands (third .bytes) factors (f - 1) ch (omega arith) (omega arith) .silent (omega (arith, none)) in
+      let st = channel-stands (third .radius) (third .bytes) factors (f - 1) ch (omega arith) (omega arith) .silent (omega (arith, none)) in
       rw (at, h .sounds, h .marks) st
 
 -- what holds of both pairs holds of the pair that a test picks
@@ -67,17 +68,17 @@ picked-both true P h k = h
 picked-both false P h k = k
 
 -- ---- the same bytes, given to two states that are alike
-number-same : (s s' : State) (sf sf' : List ℕ) (samples : List ℤ) (marks : List ℕ) → length sf ≡ length sf' → synced sf ≡ synced sf' → stateInRange s ≡ stateInRange s'
-    → takeNumber s sf samples marks ≡ takeNumber s' sf' samples marks
-unfolding takeNumber
-number-same s s' sf sf' samples marks e f g = rw (e, f, g)
+number-same : (radius : ℕ) (s s' : State) (sf sf' : List ℕ) (samples : List ℤ) (marks : List ℕ) → length sf ≡ length sf' → synced sf ≡ synced sf' → stateInRange s ≡ stateInRange s'
+    → takeNumber radius s sf samples marks ≡ takeNumber radius s' sf' samples marks
+unfolding takeNumber takable
+number-same radius s s' sf sf' samples marks e f g = rw (e, f, g)
 
 moved-in-range : (s : State) (k : Call s) → Accepted k ⊎ LostIn k → stateInRange (k .answer .next) ≡ true
 moved-in-range s k = ⊎-elim (λ z. take-in-range s k (accepted-in-range s k z)) (λ z. take-in-range s k (lost-range s k z))
 
-answers-same : (n : ℕ) (s s' : State) (sf : List ℕ) → serviceOf s ≡ serviceOf s' → SameAnswer (takeAnswer n s sf) (takeAnswer n s' sf)
+answers-same : (radius n : ℕ) (s s' : State) (sf : List ℕ) → serviceOf s ≡ serviceOf s' → SameAnswer (takeAnswer radius n s sf) (takeAnswer radius n s' sf)
 unfolding takeAnswer besideWith refusedWith
-answers-same n s s' sf e =
+answers-same radius n s s' sf e =
     either-way (eqb n 0)
     (λ t. rw (t, e) (record { number = refl; wrong = refl; blocks = refl; programmes = refl; six = refl; position = refl; service = refl; complete = refl; labels = refl }))
     (λ t. rw t (record { number = refl; wrong = refl; blocks = refl; programmes = refl; six = refl; position = refl; service = refl; complete = refl; labels = refl }))
@@ -86,21 +87,26 @@ module _ (P R : List ℕ → List ℕ → Type 0) (s s' : State) (alike : Alike 
   same-number : k .answer .number ≡ k' .answer .number
   same-number =
       sym (numbered s k)
-      ∙ ap₂ (λ (x : List ℤ) (m : List ℕ). takeNumber s (k .bytes) x m) (lent .samples) (lent .marks)
-      ∙ number-same s s' (k .bytes) (k' .bytes) (k' .lent-samples) (k' .lent-marks) (ap length bytes) (ap synced bytes) (alike .range)
+      ∙ ap₂ (λ (x : List ℤ) (m : List ℕ). takeNumber (k .radius) s (k .bytes) x m) (lent .samples) (lent .marks)
+      ∙ ap (λ (r : ℕ). takeNumber r s (k .bytes) (k' .lent-samples) (k' .lent-marks)) (lent .radius)
+      ∙ number-same (k' .radius) s s' (k .bytes) (k' .bytes) (k' .lent-samples) (k' .lent-marks) (ap length bytes) (ap synced bytes) (alike .range)
       ∙ numbered s' k'
+
+  -- the same answer, by the first call's radius and bytes
+  as-mine : (n : ℕ) → takeAnswer (k' .radius) n s' (k' .bytes) ≡ takeAnswer (k .radius) n s' (k .bytes)
+  as-mine n = ap₂ (λ (r : ℕ) (sf : List ℕ). takeAnswer r n s' sf) (sym (lent .radius)) (sym bytes)
 
   pub step-answers : SameAnswer (k .answer) (k' .answer)
   step-answers =
       let n = k .answer .number in
       let mine = answer-is s k n refl in
-      let theirs = answer-is s' k' n (sym same-number) ∙ ap (takeAnswer n s') (sym bytes) in
-      rw (mine, theirs) (answers-same n s s' (k .bytes) (alike .service))
+      let theirs = answer-is s' k' n (sym same-number) ∙ as-mine n in
+      rw (mine, theirs) (answers-same (k .radius) n s s' (k .bytes) (alike .service))
 
-  next-is : (n : ℕ) → k .answer .number ≡ n → (k .answer .next ≡ takeAnswer n s (k .bytes) .next) × (k' .answer .next ≡ takeAnswer n s' (k .bytes) .next)
+  next-is : (n : ℕ) → k .answer .number ≡ n → (k .answer .next ≡ takeAnswer (k .radius) n s (k .bytes) .next) × (k' .answer .next ≡ takeAnswer (k .radius) n s' (k .bytes) .next)
   next-is n e = (
     ap (λ (r : Taken). r .next) (answer-is s k n e),
-    ap (λ (r : Taken). r .next) (answer-is s' k' n (sym same-number ∙ e) ∙ ap (takeAnswer n s') (sym bytes)),
+    ap (λ (r : Taken). r .next) (answer-is s' k' n (sym same-number ∙ e) ∙ as-mine n),
   )
 
   ranges : Accepted k ⊎ LostIn k → stateInRange (k .answer .next) ≡ stateInRange (k' .answer .next)
@@ -134,38 +140,40 @@ module _ (P R : List ℕ → List ℕ → Type 0) (s s' : State) (alike : Alike 
   -- the same factors give the same sound
   pub step-sound : s .next ≡ s' .next → (k .samples ≡ k' .samples) × (k .marks ≡ k' .marks)
   step-sound e = (
-    k .took .sound ∙ rw (numbered s k, e, bytes, lent .samples) (sym (k' .took .sound ∙ rw (numbered s' k', sym same-number))),
-    k .took .marked ∙ rw (numbered s k, e, bytes, lent .marks) (sym (k' .took .marked ∙ rw (numbered s' k', sym same-number))),
+    k .took .sound ∙ rw (numbered s k, e, lent .radius, bytes, lent .samples) (sym (k' .took .sound ∙ rw (numbered s' k', sym same-number))),
+    k .took .marked ∙ rw (numbered s k, e, lent .radius, bytes, lent .marks) (sym (k' .took .marked ∙ rw (numbered s' k', sym same-number))),
   )
 
 -- ---- the superframe itself
-module _ (q : ℕ) (low : 1 ≤ q) (high : q ≤ 16) (sf sf' : List ℕ) (d : OnlyScale q sf sf') where
-  mark-same : (f p : ℕ) → f < 64 → p < 8 → blockMark sf f p ≡ blockMark sf' f p
+module _ (q : ℕ) (low : 1 ≤ q) (high : q ≤ 16) (sf sf' : List ℕ) (d : OnlyScale q sf sf') (radius : ℕ) (small : radius ≤ largestRadius) where
+  mark-same : (f p : ℕ) → f < 64 → p < 8 → blockMark radius sf f p ≡ blockMark radius sf' f p
   unfolding blockMark
-  mark-same f p h m = ap markOf (one.reading-same q low high sf sf' d f p h m)
+  mark-same f p h m = ap markOf (one.reading-same q low high sf sf' d radius small f p h m)
 
-  tally-same : (m : ℕ) → tallied m sf ≡ tallied m sf'
-  unfolding tallied
-  tally-same m =
-      tab-ext 8 (λ p. howMany 64 (λ f. eqb (blockMark sf f p) m)) (λ p. howMany 64 (λ f. eqb (blockMark sf' f p) m))
-      (λ p h. many-same 64 (λ f. eqb (blockMark sf f p) m) (λ f. eqb (blockMark sf' f p) m) (λ f l. ap (λ (x : ℕ). eqb x m) (mark-same f p l h)))
+  tally-same : (k : ℕ) → talliedBy (kindIn radius sf) k ≡ talliedBy (kindIn radius sf') k
+  unfolding kindIn
+  tally-same k =
+      tab-ext 8 (λ p. howMany 64 (λ f. eqb (countedAs (blockMark radius sf f p)) k)) (λ p. howMany 64 (λ f. eqb (countedAs (blockMark radius sf' f p)) k))
+      (λ p h.
+      many-same 64 (λ f. eqb (countedAs (blockMark radius sf f p)) k) (λ f. eqb (countedAs (blockMark radius sf' f p)) k)
+      (λ f l. ap (λ (x : ℕ). eqb (countedAs x) k) (mark-same f p l h)))
 
-  blocks-same : blocksOf sf ≡ blocksOf sf'
+  blocks-same : blocksOf radius sf ≡ blocksOf radius sf'
   unfolding blocksOf
   blocks-same = rw (tally-same 0, tally-same 1, tally-same 2)
 
-  samples-same : (factors : List ℕ) → samplesOf sf factors ≡ samplesOf sf' factors
+  samples-same : (factors : List ℕ) → samplesOf radius sf factors ≡ samplesOf radius sf' factors
   unfolding samplesOf sampleAt codeIn
   samples-same factors =
-      tab-ext 2048 (inRows (sampleAt sf factors)) (inRows (sampleAt sf' factors))
+      tab-ext 2048 (inRows (sampleAt radius sf factors)) (inRows (sampleAt radius sf' factors))
       (λ n l.
       ap (λ (z : ℤ). soundAt z (getD factors (n % 32) 0))
-      (one.code-same q low high sf sf' d (n / 32) (n % 32 / 4) (n % 32 % 4) (omega arith) (omega arith)))
+      (one.code-same q low high sf sf' d radius small (n / 32) (n % 32 / 4) (n % 32 % 4) (omega arith) (omega arith)))
 
-  marks-same : (factors : List ℕ) → marksOf sf factors ≡ marksOf sf' factors
+  marks-same : (factors : List ℕ) → marksOf radius sf factors ≡ marksOf radius sf' factors
   unfolding marksOf markAt
   marks-same factors =
-      tab-ext 2048 (inRows (markAt sf factors)) (inRows (markAt sf' factors))
+      tab-ext 2048 (inRows (markAt radius sf factors)) (inRows (markAt radius sf' factors))
       (λ n l. ap (λ (m : ℕ). markWith m (getD factors (n % 32) 0)) (mark-same (n / 32) (n % 32 / 4) (omega arith) (omega arith)))
 
   -- every other programme reads as before, and this one's information word
@@ -211,7 +219,7 @@ module _ (q : ℕ) (low : 1 ≤ q) (high : q ≤ 16) (sf sf' : List ℕ) (d : On
             ∙ sym (getD-tab 32 (factorRead sf') c 0 l);
       }
 
-  answer-but : (s : State) → AnswerBut q (takeAnswer 0 s sf) (takeAnswer 0 s sf')
+  answer-but : (s : State) → AnswerBut q (takeAnswer radius 0 s sf) (takeAnswer radius 0 s sf')
   unfolding takeAnswer besideWith
   answer-but s =
       let six = one.six-same q low high sf sf' d in
@@ -230,8 +238,8 @@ module _ (q : ℕ) (low : 1 ≤ q) (high : q ≤ 16) (sf sf' : List ℕ) (d : On
         labels = rw six;
       }
 
-  states-alike : (s : State) → stateInRange (takeAnswer 0 s sf .next) ≡ stateInRange (takeAnswer 0 s sf' .next)
-      → Alike _≡_ (OffProgramme q) (takeAnswer 0 s sf .next) (takeAnswer 0 s sf' .next)
+  states-alike : (s : State) → stateInRange (takeAnswer radius 0 s sf .next) ≡ stateInRange (takeAnswer radius 0 s sf' .next)
+      → Alike _≡_ (OffProgramme q) (takeAnswer radius 0 s sf .next) (takeAnswer radius 0 s sf' .next)
   unfolding takeAnswer besideWith
   states-alike s e =
       record { next = refl; after = factors-off; service = rw (one.six-same q low high sf sf' d); range = e }
@@ -245,17 +253,17 @@ joined-same t t' h =
 module _ {q : ℕ} (s s' : State) (k : Call s) (k' : Call s') (bytes : k .bytes ≡ k' .bytes) (lent : LentAlike k k') (number : k .answer .number ≡ k' .answer .number)
     {R : List ℕ → List ℕ → Type 0} (alike : Alike (OffProgramme q) R s s') where
   -- at one place, where the two factors are the same
-  sample-but : (f c : ℕ) → f < 64 → c < 32 → c / 2 ≢ q - 1 → getD (samplesOf (k .bytes) (s .next)) (32 * f + c) (pos 0) ≡ getD (samplesOf (k .bytes) (s' .next)) (32 * f + c) (pos 0)
+  sample-but : (f c : ℕ) → f < 64 → c < 32 → c / 2 ≢ q - 1 → getD (samplesOf (k .radius) (k .bytes) (s .next)) (32 * f + c) (pos 0) ≡ getD (samplesOf (k .radius) (k .bytes) (s' .next)) (32 * f + c) (pos 0)
   sample-but f c l m n =
-      sample-is (k .bytes) (s .next) f c l m
-      ∙ ap (soundAt (codeIn (k .bytes) f c)) (alike .next .same c m n)
-      ∙ sym (sample-is (k .bytes) (s' .next) f c l m)
+      sample-is (k .radius) (k .bytes) (s .next) f c l m
+      ∙ ap (soundAt (codeIn (k .radius) (k .bytes) f c)) (alike .next .same c m n)
+      ∙ sym (sample-is (k .radius) (k .bytes) (s' .next) f c l m)
 
-  mark-but : (f c : ℕ) → f < 64 → c < 32 → c / 2 ≢ q - 1 → getD (marksOf (k .bytes) (s .next)) (32 * f + c) 0 ≡ getD (marksOf (k .bytes) (s' .next)) (32 * f + c) 0
+  mark-but : (f c : ℕ) → f < 64 → c < 32 → c / 2 ≢ q - 1 → getD (marksOf (k .radius) (k .bytes) (s .next)) (32 * f + c) 0 ≡ getD (marksOf (k .radius) (k .bytes) (s' .next)) (32 * f + c) 0
   mark-but f c l m n =
-      mark-is (k .bytes) (s .next) f c l m
-      ∙ ap (markWith (blockMark (k .bytes) f (c / 4))) (alike .next .same c m n)
-      ∙ sym (mark-is (k .bytes) (s' .next) f c l m)
+      mark-is (k .radius) (k .bytes) (s .next) f c l m
+      ∙ ap (markWith (blockMark (k .radius) (k .bytes) f (c / 4))) (alike .next .same c m n)
+      ∙ sym (mark-is (k .radius) (k .bytes) (s' .next) f c l m)
 
   sound-but : SoundBut q k k'
   sound-but =
@@ -263,40 +271,46 @@ module _ {q : ℕ} (s s' : State) (k : Call s) (k' : Call s') (bytes : k .bytes 
       let theirs = numbered s' k' ∙ sym number in
       record {
         samples = λ f c l m n.
-            rw (k .took .sound, k' .took .sound, mine, theirs, ← bytes, lent .samples)
+            rw (k .took .sound, k' .took .sound, mine, theirs, ← lent .radius, ← bytes, lent .samples)
             (picked-both (eqb (k .answer .number) 0) (λ (x y : List ℤ). getD x (32 * f + c) (pos 0) ≡ getD y (32 * f + c) (pos 0)) (sample-but f c l m n) refl);
         marks = λ f c l m n.
-            rw (k .took .marked, k' .took .marked, mine, theirs, ← bytes, lent .marks)
+            rw (k .took .marked, k' .took .marked, mine, theirs, ← lent .radius, ← bytes, lent .marks)
             (picked-both (eqb (k .answer .number) 0) (λ (x y : List ℕ). getD x (32 * f + c) 0 ≡ getD y (32 * f + c) 0) (mark-but f c l m n) refl);
       }
 
 -- ---- three superframes
 module _ (q : ℕ) (low : 1 ≤ q) (high : q ≤ 16) (s : State) (first first' : Call s) (d : OnlyScale q (first .bytes) (first' .bytes)) (lent : LentAlike first first')
     (a : Accepted first) where
+  small : first .radius ≤ largestRadius
+  small = accepted-radius s first a
+
   first-number : Accepted first'
   first-number =
       sym (numbered s first')
-      ∙ sym (ap₂ (λ (x : List ℤ) (m : List ℕ). takeNumber s (first' .bytes) x m) (lent .samples) (lent .marks))
-      ∙ sym (number-same s s (first .bytes) (first' .bytes) (first .lent-samples) (first .lent-marks) (d .size ∙ sym (d .size')) (one.sync-same q low high (first .bytes) (first' .bytes) d) refl)
+      ∙ sym (ap₂ (λ (x : List ℤ) (m : List ℕ). takeNumber (first' .radius) s (first' .bytes) x m) (lent .samples) (lent .marks))
+      ∙ ap (λ (r : ℕ). takeNumber r s (first' .bytes) (first .lent-samples) (first .lent-marks)) (sym (lent .radius))
+      ∙ sym (number-same (first .radius) s s (first .bytes) (first' .bytes) (first .lent-samples) (first .lent-marks) (d .size ∙ sym (d .size')) (one.sync-same q low high (first .bytes) (first' .bytes) d) refl)
       ∙ numbered s first ∙ a
 
   pub first-sound : (first .samples ≡ first' .samples) × (first .marks ≡ first' .marks)
   first-sound =
       let h = heard s first a in
       let h' = heard s first' first-number in (
-        h .sounds ∙ samples-same q low high (first .bytes) (first' .bytes) d (s .next) ∙ sym (h' .sounds),
-        h .marks ∙ marks-same q low high (first .bytes) (first' .bytes) d (s .next) ∙ sym (h' .marks),
+        h .sounds ∙ samples-same q low high (first .bytes) (first' .bytes) d (first .radius) small (s .next)
+            ∙ ap (λ (r : ℕ). samplesOf r (first' .bytes) (s .next)) (lent .radius) ∙ sym (h' .sounds),
+        h .marks ∙ marks-same q low high (first .bytes) (first' .bytes) d (first .radius) small (s .next)
+            ∙ ap (λ (r : ℕ). marksOf r (first' .bytes) (s .next)) (lent .radius) ∙ sym (h' .marks),
       )
 
   pub first-alike : AnswerBut q (first .answer) (first' .answer)
-  first-alike = rw (answer-is s first 0 a, answer-is s first' 0 first-number) (answer-but q low high (first .bytes) (first' .bytes) d s)
+  first-alike = rw (answer-is s first 0 a, answer-is s first' 0 first-number, ← lent .radius) (answer-but q low high (first .bytes) (first' .bytes) d (first .radius) small s)
 
   between : Alike _≡_ (OffProgramme q) (first .answer .next) (first' .answer .next)
   between =
       let is = ap (λ (r : Taken). r .next) (answer-is s first 0 a) in
-      let is' = ap (λ (r : Taken). r .next) (answer-is s first' 0 first-number) in
+      let is' = ap (λ (r : Taken). r .next) (answer-is s first' 0 first-number ∙ ap (λ (r : ℕ). takeAnswer r 0 s (first' .bytes)) (sym (lent .radius))) in
       let ranges = sym (ap stateInRange is) ∙ take-in-range s first (accepted-in-range s first a) ∙ sym (take-in-range s first' (accepted-in-range s first' first-number)) ∙ ap stateInRange is' in
-      rw (is, is') (states-alike q low high (first .bytes) (first' .bytes) d s ranges)
+      rw (is, is') (states-alike q low high (first .bytes) (first' .bytes) d (first .radius) small s ranges)
 
   module _ (second : Call (first .answer .next)) (second' : Call (first' .answer .next)) (bytes : second .bytes ≡ second' .bytes) (given : LentAlike second second')
       (b : Accepted second ⊎ LostIn second) where

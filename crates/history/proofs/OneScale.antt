@@ -18,7 +18,8 @@ use Rattle.bits.specs.Digits.{value}
 use Rattle.bits.proofs.Table.{length-tab, getD-tab, tab-ext}
 use Rattle.code.specs.Words.{distance}
 use Rattle.reading.specs.Search.{reading}
-use Rattle.block.specs.Read.{said, ordinary, protected, handedOn}
+use Rattle.reading.specs.Reading.{largestRadius}
+use Rattle.block.specs.Read.{said, protected, handedOn}
 use Rattle.block.specs.Demand.{IsBlock}
 use Rattle.block_codes.specs.Codes.{codeAt}
 use Rattle.nearest.specs.Extra.{information}
@@ -129,14 +130,15 @@ module _ (q : ℕ) (k : 1 ≤ q) (l : q ≤ 16) (sf sf' : List ℕ) (d : OnlySca
         bits = block-bits s f p;
       }
 
-  pub reading-same : (f p : ℕ) → f < 64 → p < 8 → readingIn sf f p ≡ readingIn sf' f p
-  reading-same f p h m =
-      reading-there sf f p h m
-      ∙ blocks.said-same (blockIn sf f p) (blockIn sf' f p) (is-block sf f p) (is-block sf' f p) (λ j u. block-same f p j m u)
-      ∙ sym (reading-there sf' f p h m)
+  pub reading-same : (radius : ℕ) → radius ≤ largestRadius → (f p : ℕ) → f < 64 → p < 8 → readingIn radius sf f p ≡ readingIn radius sf' f p
+  reading-same radius small f p h m =
+      reading-there radius sf f p h m
+      ∙ blocks.said-same radius small (blockIn sf f p) (blockIn sf' f p) (is-block sf f p) (is-block sf' f p) (λ j u. block-same f p j m u)
+      ∙ sym (reading-there radius sf' f p h m)
 
-  pub code-same : (f p c : ℕ) → p < 8 → c < 4 → codeAt (handedOn (blockIn sf f p)) c ≡ codeAt (handedOn (blockIn sf' f p)) c
-  code-same f p c m = blocks.code-same (blockIn sf f p) (blockIn sf' f p) (is-block sf f p) (is-block sf' f p) (λ j u. block-same f p j m u) c
+  pub code-same : (radius : ℕ) → radius ≤ largestRadius → (f p c : ℕ) → p < 8 → c < 4
+      → codeAt (handedOn radius (blockIn sf f p)) c ≡ codeAt (handedOn radius (blockIn sf' f p)) c
+  code-same radius small f p c m = blocks.code-same radius small (blockIn sf f p) (blockIn sf' f p) (is-block sf f p) (is-block sf' f p) (λ j u. block-same f p j m u) c
 
   -- extra bits: those of other programmes, and from the 43rd frame on
   extra-bit-same : (r f : ℕ) → r < 16 → f < 64 → (r ≡ q - 1 → 42 ≤ f) → extraBit sf r f ≡ extraBit sf' r f

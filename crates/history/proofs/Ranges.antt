@@ -55,9 +55,9 @@ factors-known s sf h = (
   below-all 9 (tabulate 32 (factorRead sf)) (below-tab 9 32 (factorRead sf) (λ c l. factor-small sf c)),
 )
 
-answer-in-range : (n : ℕ) (s : State) (sf : List ℕ) → stateInRange s ≡ true → stateInRange (takeAnswer n s sf .next) ≡ true
+answer-in-range : (radius n : ℕ) (s : State) (sf : List ℕ) → stateInRange s ≡ true → stateInRange (takeAnswer radius n s sf .next) ≡ true
 unfolding takeAnswer besideWith refusedWith
-answer-in-range n s sf h =
+answer-in-range radius n s sf h =
     let x : Step = record { six = sixAndSync sf .six; sync = sixAndSync sf .sync } in
     let known = factors-known s sf h in
     either-way (eqb n 0)
@@ -66,4 +66,4 @@ answer-in-range n s sf h =
 
 module _ (s : State) (k : Call s) where
   pub take-in-range : stateInRange s ≡ true → stateInRange (k .answer .next) ≡ true
-  take-in-range h = rw (k .took .answer) (answer-in-range (takeNumber s (k .bytes) (k .lent-samples) (k .lent-marks)) s (k .bytes) h)
+  take-in-range h = rw (k .took .answer) (answer-in-range (k .radius) (takeNumber (k .radius) s (k .bytes) (k .lent-samples) (k .lent-marks)) s (k .bytes) h)

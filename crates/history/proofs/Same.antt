@@ -14,13 +14,13 @@ use lib.Seq.{ext-getD, getD-take, getD-drop, length-take-le}
 use Rattle.bits.proofs.Table.{getD-front}
 use Rattle.bits.proofs.Tests.{either-way}
 use Rattle.sample.specs.Pattern.{bitsCode}
-use Rattle.reading.specs.Reading.{handed}
+use Rattle.reading.specs.Reading.{handed, largestRadius}
 use Rattle.reading.specs.Search.{reading}
 use Rattle.block.specs.Layout.{fourteen, codePlace}
-use Rattle.block.specs.Read.{Said, said, ordinary, protected, handedOn}
+use Rattle.block.specs.Read.{Said, said, protected, handedOn}
 use Rattle.block.specs.Demand.{IsBlock}
 use Rattle.block.proofs.Places.{length-fourteen, fourteen-at}
-use Rattle.block.proofs.Demand.{read-meets, second}
+use Rattle.block.proofs.Demand.{read-meets, second-at}
 use Rattle.block_codes.specs.Codes.{codeAt}
 
 module _ (x y : List ℕ) (n : ℕ) where
@@ -56,29 +56,29 @@ module _ (x y : List ℕ) (size : length x ≡ 77) (size' : length y ≡ 77)
       sym (fourteen-at x size c h k within) ∙ same-place c k h within ∙ fourteen-at y size' c h k within))
 
 -- a block as it is handed on
-module _ (x : List ℕ) (b : IsBlock x) where
+module _ (radius : ℕ) (small : radius ≤ largestRadius) (x : List ℕ) (b : IsBlock x) where
   abbrev front : List ℕ
-  front = handed (protected x) (reading ordinary (protected x))
+  front = handed (protected x) (reading radius (protected x))
 
-  in-parts : handedOn x ≡ front ++ drop 63 x
-  in-parts = read-meets x b .hands
+  in-parts : handedOn radius x ≡ front ++ drop 63 x
+  in-parts = read-meets x b radius .hands
 
-  behind : drop 63 (handedOn x) ≡ drop 63 x
-  behind = second .others x (b .size)
+  behind : drop 63 (handedOn radius x) ≡ drop 63 x
+  behind = second-at radius small .others x (b .size)
 
-  long : length (handedOn x) ≡ 77
-  long = omega (arith, length-drop 63 (handedOn x), ap length behind, length-drop 63 x, b .size)
+  long : length (handedOn radius x) ≡ 77
+  long = omega (arith, length-drop 63 (handedOn radius x), ap length behind, length-drop 63 x, b .size)
 
   front-long : length front ≡ 63
   front-long = omega (arith, ap length in-parts, length-append front (drop 63 x), length-drop 63 x, long, b .size)
 
-  in-front : (p : ℕ) → p < 63 → getD (handedOn x) p 0 ≡ getD front p 0
+  in-front : (p : ℕ) → p < 63 → getD (handedOn radius x) p 0 ≡ getD front p 0
   in-front p h = ap (λ (l : List ℕ). getD l p 0) in-parts ∙ getD-front front (drop 63 x) 63 p 0 front-long h
 
-  in-rest : (p : ℕ) → 63 ≤ p → getD (handedOn x) p 0 ≡ getD x p 0
-  in-rest = late (handedOn x) x 63 behind
+  in-rest : (p : ℕ) → 63 ≤ p → getD (handedOn radius x) p 0 ≡ getD x p 0
+  in-rest = late (handedOn radius x) x 63 behind
 
-module _ (x y : List ℕ) (b : IsBlock x) (b' : IsBlock y) (same : (j : ℕ) → j < 75 → getD x j 0 ≡ getD y j 0) where
+module _ (radius : ℕ) (small : radius ≤ largestRadius) (x y : List ℕ) (b : IsBlock x) (b' : IsBlock y) (same : (j : ℕ) → j < 75 → getD x j 0 ≡ getD y j 0) where
   word-same : protected x ≡ protected y
   word-same =
       let size = length-take-le 63 x (omega (arith, b .size)) in
@@ -86,13 +86,13 @@ module _ (x y : List ℕ) (b : IsBlock x) (b' : IsBlock y) (same : (j : ℕ) →
       ext-getD 0 (take 63 x) (take 63 y) (size ∙ sym size')
       (λ j l. let within : j < 63 = omega arith in getD-take 63 x j 0 within ∙ same j (omega arith) ∙ sym (getD-take 63 y j 0 within))
 
-  pub said-same : said (reading ordinary (protected x)) ≡ said (reading ordinary (protected y))
-  said-same = ap (λ (w : List ℕ). said (reading ordinary w)) word-same
+  pub said-same : said (reading radius (protected x)) ≡ said (reading radius (protected y))
+  said-same = ap (λ (w : List ℕ). said (reading radius w)) word-same
 
-  pub code-same : (c : ℕ) → c < 4 → codeAt (handedOn x) c ≡ codeAt (handedOn y) c
+  pub code-same : (c : ℕ) → c < 4 → codeAt (handedOn radius x) c ≡ codeAt (handedOn radius y) c
   code-same =
-      same-code (handedOn x) (handedOn y) (long x b) (long y b')
+      same-code (handedOn radius x) (handedOn radius y) (long radius small x b) (long radius small y b')
       (λ p h.
       let within : p < 63 = omega arith in
-      in-front x b p within ∙ ap (λ (w : List ℕ). getD (handed w (reading ordinary w)) p 0) word-same ∙ sym (in-front y b' p within))
-      (λ p h l. in-rest x b p h ∙ same p l ∙ sym (in-rest y b' p h))
+      in-front radius small x b p within ∙ ap (λ (w : List ℕ). getD (handed w (reading radius w)) p 0) word-same ∙ sym (in-front radius small y b' p within))
+      (λ p h l. in-rest radius small x b p h ∙ same p l ∙ sym (in-rest radius small y b' p h))

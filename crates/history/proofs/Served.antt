@@ -8,6 +8,7 @@
 -- Assumes nothing.
 use mathlib.Core.Path.{_≡_, refl, sym, ap, subst, _∙_}
 use mathlib.Core.Bool.{true, false}
+use mathlib.Core.Logic.{inl}
 use mathlib.Core.List.{List, [], _∷_, _++_}
 use Prim.Native.Nat.{ℕ, zero, suc, _+_, _<_, _≤_}
 use native.Mathlib.Omega.{arith}
@@ -32,7 +33,7 @@ use Rattle.superframe.specs.State.{serviceOf, stateInRange, lostWith, lostState
 use Rattle.superframe.specs.Take.{takeNumber, besideWith, refusedWith, takeAnswer}
 use Rattle.bits.proofs.Order.{given-three}
 use Rattle.tape.proofs.Faults.{tells-sync}
-use Rattle.superframe.proofs.Refusals.{tells-lengths, tells-state, take-refuses}
+use Rattle.superframe.proofs.Refusals.{tells-lengths, tells-state, tells-takable, take-refuses}
 use Rattle.superframe.specs.declared.state.State.{State}
 use Rattle.superframe.specs.declared.taking.Taken.{Taken}
 use Rattle.history.specs.Calls.{Call, Accepted, LostIn, Calls, stepIn, LabelsNone}
@@ -44,7 +45,7 @@ use Rattle.history.proofs.Ahead.{lost-state}
 
 -- ---- one call
 module _ (s : State) (k : Call s) where
-  answered : Accepted k → k .answer ≡ takeAnswer 0 s (k .bytes)
+  answered : Accepted k → k .answer ≡ takeAnswer (k .radius) 0 s (k .bytes)
   answered = answer-is s k 0
 
   pub served-next : Accepted k → serviceOf (k .answer .next) ≡ stepped (serviceOf s) (stepIn k) .next
@@ -69,7 +70,7 @@ position-given s first second a b = position-kept (first .answer .next) second b
 
 -- ---- how far the labels are, over any call
 answer-none : (n : ℕ) (s : State) (k : Call s) → progress.progress (serviceOf s) < 72
-    → (takeAnswer n s (k .bytes) .complete ≡ false) × (takeAnswer n s (k .bytes) .labels ≡ replicate 256 0)
+    → (takeAnswer (k .radius) n s (k .bytes) .complete ≡ false) × (takeAnswer (k .radius) n s (k .bytes) .labels ≡ replicate 256 0)
 unfolding takeAnswer besideWith refusedWith
 answer-none n s k h =
     either-way (eqb n 0)
@@ -78,10 +79,10 @@ answer-none n s k h =
 
 none-handed : (s : State) (k : Call s) → progress.progress (serviceOf s) < 72 → LabelsNone k
 none-handed s k h =
-    let none = answer-none (takeNumber s (k .bytes) (k .lent-samples) (k .lent-marks)) s k h in
+    let none = answer-none (takeNumber (k .radius) s (k .bytes) (k .lent-samples) (k .lent-marks)) s k h in
     record { complete = ap (λ (r : Taken). r .complete) (k .took .answer) ∙ none .0; labels = ap (λ (r : Taken). r .labels) (k .took .answer) ∙ none .1 }
 
-further : (n : ℕ) (s : State) (k : Call s) → stateInRange s ≡ true → progress.progress (serviceOf (takeAnswer n s (k .bytes) .next)) ≤ progress.progress (serviceOf s) + 1
+further : (n : ℕ) (s : State) (k : Call s) → stateInRange s ≡ true → progress.progress (serviceOf (takeAnswer (k .radius) n s (k .bytes) .next)) ≤ progress.progress (serviceOf s) + 1
 unfolding takeAnswer besideWith refusedWith searchingService
 further n s k h =
     either-way (eqb n 0)
@@ -110,7 +111,7 @@ module _ (state : ℕ → State) (calls : Calls state) where
     along zero = start
     along (suc n) =
         let k = calls .call n in
-        let m = further (takeNumber (state n) (k .bytes) (k .lent-samples) (k .lent-marks)) (state n) k (in-range h n) in
+        let m = further (takeNumber (k .radius) (state n) (k .bytes) (k .lent-samples) (k .lent-marks)) (state n) k (in-range h n) in
         rw (calls .next n, k .took .answer) (omega (arith, m, along n))
 
     pub none-for-71 : (n : ℕ) → n ≤ 70 → LabelsNone (calls .call n)
@@ -143,8 +144,8 @@ pub lost-range : (s : State) (k : Call s) → LostIn k → stateInRange s ≡ tr
 lost-range s k z =
     either-way (stateInRange s) (λ u. u)
     (λ u.
-    let refuses = take-refuses s (k .bytes) (k .lent-samples) (k .lent-marks) (k .answer) (k .samples) (k .marks) (k .took) in
-    absurd (given-three (refuses .order) _ _ _ (tells-lengths (k .bytes) (k .lent-samples) (k .lent-marks)) (tells-state s) (tells-sync (k .bytes)) z .1 .0 (tells-state s .there u)))
+    let refuses = take-refuses (k .radius) s (k .bytes) (k .lent-samples) (k .lent-marks) (k .answer) (k .samples) (k .marks) (k .took) in
+    absurd (given-three (refuses .order) _ _ _ (tells-lengths (k .bytes) (k .lent-samples) (k .lent-marks)) (tells-takable (k .radius) s) (tells-sync (k .bytes)) z .1 .0 (inl (tells-state s .there u))))
 
 pub loss-none : (state : ℕ → State) (calls : Calls state) (s : State) (k : Call s) → LostIn k → state 0 ≡ k .answer .next → (n : ℕ) → n ≤ 70 → LabelsNone (calls .call n)
 unfolding searchingService

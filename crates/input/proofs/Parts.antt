@@ -16,7 +16,7 @@ use Rattle.bits.specs.Digits.{value}
 use Rattle.bits.specs.Answer.{accepted, refused}
 use Rattle.reel.specs.Header.{numberAt, mostSuperframes, goodHeader, headerOf}
 use Rattle.ending.specs.declared.Ended.{Ended}
-use Rattle.ending.specs.declared.Ended.the-variants.{Whole, Short, HeaderShort, CountTooLarge, OffsetTooSmall, HasSummary, NotRead, NotWritten}
+use Rattle.ending.specs.declared.Ended.the-variants.{Whole, Short, HeaderShort, CountTooLarge, OffsetTooSmall, HasSummary, NoRadius, NotRead, NotWritten}
 use Rattle.input.specs.Fault.{isRefused, faultOf}
 
 abbrev pub countAlone : List ℕ → List ℕ
@@ -67,6 +67,7 @@ isWhole HeaderShort = false
 isWhole CountTooLarge = false
 isWhole OffsetTooSmall = false
 isWhole HasSummary = false
+isWhole NoRadius = false
 isWhole (NotRead e) = false
 isWhole (NotWritten e) = false
 

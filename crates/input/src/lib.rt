@@ -1,8 +1,11 @@
-// A reel that comes on standard input, in pieces: its header, and the bytes before its first superframe.
+// A reel that comes on standard input, in pieces: its header, and the bytes before its first superframe; and the radius that it shall be read at.
 // What comes from outside is not promised; what is made of it is. A read that fails is not the end of the reel: it is handed on by its error, 0 where none failed.
 mod fault;
+mod radius;
 
 pub use fault::fault_of;
+pub use radius::radius_at;
+pub use radius::radius_of;
 ghost use mathlib.Core.Path.{_≡_};
 ghost use Prim.Native.Nat.{_≤_, min};
 ghost use Rattle.reel.specs.Header.{headerAnswer};

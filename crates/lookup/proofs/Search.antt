@@ -1,25 +1,37 @@
--- Laws of the search for the first place of a number.
+-- Laws of the search for the first place of a number, for two places and for three.
 --     here, on, over    at the place reached; from the next one on; at the end
 --     hit, miss, pair-hit    what is found is there; what is there is found
 --     last-here, last-on, last-hit, last-miss
 --                       the same of the search for the last place
---     found-none, found-pair, found-one, found-nowhere
---                       the four answers, by what the search found
+--     pair-there, pair-away, two-away, two-there
+--                       what stands beside a pair, and the two places, by what the search found
+--     three-here, three-on, three-over
+--                       three places: at the first place reached; from the next one on; at the end
+--     by-none, by-two, by-one, by-nowhere, by-three
+--                       the answers, by the remainder's ones, by what was found and by the radius
+--     even-low, odd-low     whether the remainder's ones are even in number, as the code counts them
 -- Assumes nothing.
 use mathlib.Core.Path.{_≡_, refl, sym, ap, _∙_, subst}
 use mathlib.Core.Logic.{⊎-elim}
 use mathlib.Core.Bool.{Bool, true, false, cond}
 use mathlib.Core.List.{List, [], _∷_}
-use mathlib.Core.Option.{none, some}
-use Prim.Native.Nat.{ℕ, zero, suc, _+_, _-_, _/_, _%_, _≤_, _<_}
-use native.Mathlib.Nat.{eq-or-lt-of-le, le-of-suc-le-suc}
+use mathlib.Core.Option.{Option, none, some}
+use Prim.Native.Nat.{ℕ, zero, suc, _+_, _-_, _/_, _%_, _^_, _≤_, _<_}
+use native.Mathlib.Nat.{eq-or-lt-of-le, le-of-suc-le-suc, mod-lt}
 use native.Mathlib.Numerals.{add-one}
 use native.Mathlib.Omega.{arith}
 use borrow.Author.Tests.{eqb-true, eqb-false, eq-eqb, ne-eqb, lt-ltb, le-ltb}
+use lib.Bits.{bitXor}
+use lib.Count as Count
 use lib.Dec.{eqb, ltb}
 use lib.ListN.{length, getD}
+use lib.Pow.{pow-pos}
+use Rattle.bits.specs.Bits.{ones}
+use Rattle.bits.specs.Digits.{digits}
+use Rattle.bits.proofs.Digits.{digits-low}
+use Rattle.bits.proofs.Ones.{count-digits}
 use Rattle.bits.proofs.Tests.{either-way}
-use Rattle.lookup.specs.Search.{firstFrom, firstIn, lastOf, pairOf, found}
+use Rattle.lookup.specs.Search.{firstFrom, firstIn, lastOf, pairOf, pairBy, twoBy, firstAt, threeFrom, threeBy, placesBy}
 
 module _ (ts : List ℕ) (s : ℕ) where
   pub here : (k end : ℕ) → k < end → getD ts k 0 ≡ s → firstFrom ts s k (end - k) ≡ k
@@ -105,20 +117,90 @@ pub pair-hit : (pairs starts : List ℕ) (s : ℕ) → pairOf pairs starts s < l
 unfolding pairOf
 pair-hit pairs starts s h = hit pairs s _ _ h
 
-module _ (places : List ℕ) (s pair one : ℕ) where
-  pub found-none : s ≡ 0 → found places s pair one ≡ some []
-  unfolding found
-  found-none z = rw (eq-eqb s 0 z)
+module _ (pairs places starts : List ℕ) (s : ℕ) where
+  pub pair-there : pairOf pairs starts s < 1953 → pairBy pairs places starts s ≡ getD places (pairOf pairs starts s) 0
+  unfolding pairBy
+  pair-there h = rw (lt-ltb (pairOf pairs starts s) 1953 h)
 
-  module _ (not-zero : s ≡ 0 → ⊥) where
-    pub found-pair : pair < 1953 → found places s pair one ≡ some (getD places pair 0 / 64 ∷ getD places pair 0 % 64 ∷ [])
-    unfolding found
-    found-pair l = rw (ne-eqb s 0 not-zero, lt-ltb pair 1953 l)
+  pub pair-away : 1953 ≤ pairOf pairs starts s → pairBy pairs places starts s ≡ 0
+  unfolding pairBy
+  pair-away h = rw (le-ltb (pairOf pairs starts s) 1953 h)
 
-    pub found-one : 1953 ≤ pair → one < 63 → found places s pair one ≡ some (one ∷ [])
-    unfolding found
-    found-one g l = rw (ne-eqb s 0 not-zero, le-ltb pair 1953 g, lt-ltb one 63 l)
+  pub two-away : pairBy pairs places starts s ≡ 0 → twoBy pairs places starts s ≡ none
+  unfolding twoBy
+  two-away e = rw (eq-eqb (pairBy pairs places starts s) 0 e)
 
-    pub found-nowhere : 1953 ≤ pair → 63 ≤ one → found places s pair one ≡ none
-    unfolding found
-    found-nowhere g h = rw (ne-eqb s 0 not-zero, le-ltb pair 1953 g, le-ltb one 63 h)
+  pub two-there : (pairBy pairs places starts s ≡ 0 → ⊥)
+      → twoBy pairs places starts s ≡ some (pairBy pairs places starts s / 64 ∷ pairBy pairs places starts s % 64 ∷ [])
+  unfolding twoBy
+  two-there e = rw (ne-eqb (pairBy pairs places starts s) 0 e)
+
+-- ---- three places
+module _ (singles pairs places starts : List ℕ) (s : ℕ) where
+  -- the pair that leaves the rest
+  abbrev pub bothAt : ℕ → ℕ
+  bothAt i = pairBy pairs places starts (bitXor s (getD singles i 0) % 2 ^ 19)
+
+  abbrev from : ℕ → ℕ → Option (List ℕ)
+  from = threeFrom singles pairs places starts s
+
+  step : (i : ℕ) (b : Bool) → ltb i (bothAt i / 64) ≡ b → i < 63
+      → from i (63 - i) ≡ cond b (some (i ∷ bothAt i / 64 ∷ bothAt i % 64 ∷ [])) (from (suc i) (63 - suc i))
+  unfolding threeFrom firstAt
+  step i b e l =
+      let more : 63 - i ≡ suc (63 - suc i) = omega arith in
+      ap (from i) more ∙ ap (λ (t : Bool). cond t (some (i ∷ bothAt i / 64 ∷ bothAt i % 64 ∷ [])) (from (suc i) (63 - suc i))) e
+
+  pub three-here : (i : ℕ) → i < 63 → i < bothAt i / 64 → from i (63 - i) ≡ some (i ∷ bothAt i / 64 ∷ bothAt i % 64 ∷ [])
+  three-here i l h = step i true (lt-ltb i (bothAt i / 64) h) l
+
+  pub three-on : (i : ℕ) → i < 63 → bothAt i / 64 ≤ i → from i (63 - i) ≡ from (i + 1) (63 - (i + 1))
+  three-on i l h = step i false (le-ltb i (bothAt i / 64) h) l ∙ ap (λ (j : ℕ). from j (63 - j)) (sym (add-one i))
+
+  pub three-over : (i : ℕ) → 63 ≤ i → from i (63 - i) ≡ none
+  unfolding threeFrom
+  three-over i h = let end : 63 - i ≡ 0 = omega arith in ap (from i) end
+
+-- ---- the answers
+module _ (singles pairs places starts : List ℕ) (radius r : ℕ) where
+  abbrev answered : Option (List ℕ)
+  answered = placesBy singles pairs places starts radius r
+
+  abbrev s : ℕ
+  s = r % 2 ^ 19
+
+  abbrev one : ℕ
+  one = lastOf singles s 63
+
+  pub by-none : s ≡ 0 → answered ≡ some []
+  unfolding placesBy
+  by-none z = rw (eq-eqb s 0 z)
+
+  module _ (left : s ≡ 0 → ⊥) where
+    pub by-two : ones (digits 2 19 r) % 2 ≡ 0 → answered ≡ twoBy pairs places starts s
+    unfolding placesBy
+    by-two e = rw (ne-eqb s 0 left, eq-eqb (ones (digits 2 19 r) % 2) 0 e)
+
+    module _ (odd : ones (digits 2 19 r) % 2 ≡ 0 → ⊥) where
+      pub by-one : one < 63 → answered ≡ some (one ∷ [])
+      unfolding placesBy
+      by-one l = rw (ne-eqb s 0 left, ne-eqb (ones (digits 2 19 r) % 2) 0 odd, lt-ltb one 63 l)
+
+      module _ (none-alone : 63 ≤ one) where
+        pub by-nowhere : radius < 3 → answered ≡ none
+        unfolding placesBy
+        by-nowhere h = rw (ne-eqb s 0 left, ne-eqb (ones (digits 2 19 r) % 2) 0 odd, le-ltb one 63 none-alone, lt-ltb radius 3 h)
+
+        pub by-three : 3 ≤ radius → answered ≡ threeBy singles pairs places starts s
+        unfolding placesBy
+        by-three h = rw (ne-eqb s 0 left, ne-eqb (ones (digits 2 19 r) % 2) 0 odd, le-ltb one 63 none-alone, le-ltb radius 3 h)
+
+-- ---- the ones of the 19 low digits, as the code counts them
+count-low : (r : ℕ) → Count.ones (r % 2 ^ 19) ≡ ones (digits 2 19 r)
+count-low r = count-digits 19 (r % 2 ^ 19) (mod-lt r (pow-pos 19)) ∙ ap ones (digits-low 19 r)
+
+pub even-low : (r : ℕ) → Count.ones (r % 2 ^ 19) % 2 ≡ 0 → ones (digits 2 19 r) % 2 ≡ 0
+even-low r e = ap (λ (n : ℕ). n % 2) (sym (count-low r)) ∙ e
+
+pub odd-low : (r : ℕ) → (Count.ones (r % 2 ^ 19) % 2 ≡ 0 → ⊥) → ones (digits 2 19 r) % 2 ≡ 0 → ⊥
+odd-low r e z = e (ap (λ (n : ℕ). n % 2) (count-low r) ∙ z)

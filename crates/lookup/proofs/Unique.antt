@@ -7,6 +7,6 @@ use Rattle.reading.specs.declared.Places.{Places}
 use Rattle.lookup.specs.Search.{placesBy}
 use Rattle.reading.proofs.Answered.{answer-inj}
 
-module _ (singles pairs places starts : List ℕ) (remainder : ℕ) where
-  pub places-by-unique : (p q : Places) → answer p ≡ placesBy singles pairs places starts remainder → answer q ≡ placesBy singles pairs places starts remainder → p ≡ q
+module _ (singles pairs places starts : List ℕ) (radius remainder : ℕ) where
+  pub places-by-unique : (p q : Places) → answer p ≡ placesBy singles pairs places starts radius remainder → answer q ≡ placesBy singles pairs places starts radius remainder → p ≡ q
   places-by-unique p q h k = answer-inj p q (h ∙ sym k)

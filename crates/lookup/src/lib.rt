@@ -4,7 +4,8 @@
 use reading::Places;
 ghost use mathlib.Core.Path.{_≡_};
 ghost use Rattle.reading.specs.Wrong.{answer};
-ghost use Rattle.lookup.specs.Search.{firstIn, lastOf, placesBy};
+ghost use Prim.Native.Nat.{_%_, _^_};
+ghost use Rattle.lookup.specs.Search.{firstIn, lastOf, pairBy, twoBy, threeBy, placesBy};
 
 fn size(x: u16) -> usize
     ensures { λ r. ⌜ r ≡ x ⌝ }
@@ -43,31 +44,77 @@ fn last_of(list: &[u32; 63], number: u32) -> usize
     at
 }
 
-// The places, at most two, that leave a remainder, given as the number of its 19 digits.
-pub fn places_by(
+// The two places of the pair that leaves a remainder, 64 times the first and the second, or 0.
+fn pair_by(pairs: &[u32; 1953], places: &[u16; 1953], starts: &[u16; 257], remainder: u32) -> usize
+    ensures { λ r. ⌜ r ≡ pairBy (now (pairs .entry)) (now (places .entry)) (now (starts .entry)) (remainder % 2 ^ 19) ⌝ }
+{
+    let low = remainder % 524288;
+    let upper = (low / 2048) as usize;
+    let from = size(starts[upper]);
+    let to = size(starts[upper + 1]);
+    let pair = first_in(pairs, low, from, to);
+    if pair < 1953 {
+        return size(places[pair]);
+    }
+    0
+}
+
+fn two_by(pairs: &[u32; 1953], places: &[u16; 1953], starts: &[u16; 257], remainder: u32) -> Places
+    ensures { λ r. ⌜ answer r ≡ twoBy (now (pairs .entry)) (now (places .entry)) (now (starts .entry)) (remainder % 2 ^ 19) ⌝ }
+{
+    let both = pair_by(pairs, places, starts, remainder);
+    if both == 0 {
+        return Places::Nowhere;
+    }
+    Places::Two(both / 64, both % 64)
+}
+
+// For each first place the pair behind it that leaves the rest.
+fn three_by(
     singles: &[u32; 63],
     pairs: &[u32; 1953],
     places: &[u16; 1953],
     starts: &[u16; 257],
     remainder: u32,
 ) -> Places
-    ensures { λ r. ⌜ answer r ≡ placesBy (now (singles .entry)) (now (pairs .entry)) (now (places .entry)) (now (starts .entry)) remainder ⌝ }
+    ensures { λ r. ⌜ answer r ≡ threeBy (now (singles .entry)) (now (pairs .entry)) (now (places .entry)) (now (starts .entry)) remainder ⌝ }
+{
+    let mut i: usize = 0;
+    while i < 63 {
+        let both = pair_by(pairs, places, starts, remainder ^ singles[i]);
+        if i < both / 64 {
+            return Places::Three(i, both / 64, both % 64);
+        }
+        i += 1;
+    }
+    Places::Nowhere
+}
+
+// The places, at most two, or three where the radius is 3 or more, that leave a remainder, given as the number of its 19 digits. One place and three leave an
+// odd number of ones, two an even one (document 02, P9).
+pub fn places_by(
+    singles: &[u32; 63],
+    pairs: &[u32; 1953],
+    places: &[u16; 1953],
+    starts: &[u16; 257],
+    radius: u8,
+    remainder: u32,
+) -> Places
+    ensures { λ r. ⌜ answer r ≡ placesBy (now (singles .entry)) (now (pairs .entry)) (now (places .entry)) (now (starts .entry)) radius remainder ⌝ }
 {
     let low = remainder % 524288;
     if low == 0 {
         return Places::Zero;
     }
-    let upper = (low / 2048) as usize;
-    let from = size(starts[upper]);
-    let to = size(starts[upper + 1]);
-    let pair = first_in(pairs, low, from, to);
-    if pair < 1953 {
-        let both = places[pair];
-        return Places::Two(size(both / 64), size(both % 64));
+    if u32::count_ones(low) % 2 == 0 {
+        return two_by(pairs, places, starts, low);
     }
     let one = last_of(singles, low);
     if one < 63 {
         return Places::One(one);
     }
-    Places::Nowhere
+    if radius < 3 {
+        return Places::Nowhere;
+    }
+    three_by(singles, pairs, places, starts, low)
 }

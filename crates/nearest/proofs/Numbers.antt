@@ -1,5 +1,5 @@
 -- The 42 bits and the words as numbers.
---     count-digits, distance-number    the ones of a number, and the places in which two differ, as the code counts them
+--     distance-number           the places in which two numbers differ, as the code counts them
 --     sent-at, sent-small       what stands in the table, and how large it is
 --     far-number                the ones of an exclusive or are the places in which the bits differ from the word sent three times
 --     far-most                  at most 42 of them
@@ -8,22 +8,21 @@
 --     all-from                  of bits they are those
 --     near-told, best-told      what is read, by what the code found
 -- Assumes nothing.
-use mathlib.Core.Path.{_≡_, refl, sym, ap, _∙_, subst}
+use mathlib.Core.Path.{_≡_, sym, ap, _∙_, subst}
 use mathlib.Core.Bool.{true}
 use mathlib.Core.List.{List, [], _∷_}
-use Prim.Native.Nat.{ℕ, zero, suc, _+_, _*_, _/_, _%_, _^_, _≤_, _<_}
+use Prim.Native.Nat.{ℕ, _+_, _*_, _/_, _%_, _^_, _≤_, _<_}
 use native.Mathlib.Nat.{mod-lt, mod-eq-of-lt}
-use native.Mathlib.Numerals.{add-one}
 use native.Mathlib.Omega.{arith}
 use lib.Bits.{bitXor, xor-lt}
 use lib.Count as Count
 use lib.ListN.{length, getD, take, drop, length-drop}
-use lib.Pow.{shr-lt}
 use lib.Seq.{getD-take, getD-drop, length-take-le}
 use Rattle.bits.specs.Answer.{accepted}
 use Rattle.bits.specs.Bits.{ones, areBits}
 use Rattle.bits.specs.Digits.{value, digits, Below}
-use Rattle.bits.proofs.Bits.{bits-below, ones-append}
+use Rattle.bits.proofs.Bits.{bits-below}
+use Rattle.bits.proofs.Ones.{count-digits}
 use Rattle.bits.proofs.Digits.{below-append, digits-value, below-tab, below-getD, value-below, value-tab, value-tab-below}
 use Rattle.bits.proofs.Table.{length-tab, getD-tab, tab-ext, tab-getD}
 use Rattle.remainder.proofs.Register.{digits-xor}
@@ -37,18 +36,6 @@ use Rattle.nearest.proofs.Search.{holds-told}
 use Rattle.nearest.proofs.Thrice.{length-thrice, near-seven}
 
 -- ---- numbers of n digits
-none : Count.ones 0 ≡ 0
-unfolding Count.ones Count.onesIn
-none = refl
-
-pub count-digits : (n x : ℕ) → x < 2 ^ n → Count.ones x ≡ ones (digits 2 n x)
-unfolding ones digits
-count-digits zero x h = let z : x ≡ 0 = omega arith in rw z none
-count-digits (suc n) x h =
-    Count.ones-step x
-    ∙ ap (λ (k : ℕ). x % 2 + k) (count-digits n (x / 2) (shr-lt n 1 (rw (add-one n) h)))
-    ∙ rw (ones-append (digits 2 n (x / 2)) (x % 2 ∷ [])) (omega arith)
-
 pub distance-number : (n a b : ℕ) → a < 2 ^ n → b < 2 ^ n → Count.ones (bitXor a b) ≡ distance (digits 2 n a) (digits 2 n b)
 unfolding distance
 distance-number n a b h k = count-digits n (bitXor a b) (xor-lt n a b h k) ∙ ap ones (digits-xor n a b)

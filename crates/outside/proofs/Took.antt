@@ -19,44 +19,44 @@ use Rattle.superframe.specs.declared.taking.Taken.{Taken}
 use Rattle.superframe.proofs.Refusals.{numbered}
 use Rattle.outside.specs.Outside.{stateFrom, packedOf, outsideNumber, besideAfter, TookOutside}
 
-module _ (b sf : List ℕ) (samples : List ℤ) (marks : List ℕ) where
-  pub other-length : (length b ≡ 88 → ⊥) → TookOutside b sf samples marks 1 b samples marks
+module _ (radius : ℕ) (b sf : List ℕ) (samples : List ℤ) (marks : List ℕ) where
+  pub other-length : (length b ≡ 88 → ⊥) → TookOutside radius b sf samples marks 1 b samples marks
   unfolding outsideNumber besideAfter
   other-length h =
       let no = ne-eqb (length b) 88 h in
       record { number = rw no; beside = rw no; sound = rw no; marked = rw no }
 
   module _ (size : length b ≡ 88) (s : State) (made : s ≡ stateFrom b) (r : Taken) (samples' : List ℤ) (marks' : List ℕ)
-      (given : Took s sf samples marks r samples' marks') where
-    t : Took (stateFrom b) sf samples marks r samples' marks'
-    t = subst (λ (s : State). Took s sf samples marks r samples' marks') made given
+      (given : Took radius s sf samples marks r samples' marks') where
+    t : Took radius (stateFrom b) sf samples marks r samples' marks'
+    t = subst (λ (s : State). Took radius s sf samples marks r samples' marks') made given
 
-    sized : outsideNumber b sf samples marks ≡ takeNumber (stateFrom b) sf samples marks
+    sized : outsideNumber radius b sf samples marks ≡ takeNumber radius (stateFrom b) sf samples marks
     unfolding outsideNumber
     sized = rw (eq-eqb (length b) 88 size)
 
-    number : outsideNumber b sf samples marks ≡ r .number
-    number = sized ∙ numbered (stateFrom b) sf samples marks r samples' marks' t
+    number : outsideNumber radius b sf samples marks ≡ r .number
+    number = sized ∙ numbered radius (stateFrom b) sf samples marks r samples' marks' t
 
-    with-bytes : (n : ℕ) → r .number ≡ n → (b' : List ℕ) → b' ≡ besideAfter n b sf → TookOutside b sf samples marks n b' samples' marks'
+    with-bytes : (n : ℕ) → r .number ≡ n → (b' : List ℕ) → b' ≡ besideAfter radius n b sf → TookOutside radius b sf samples marks n b' samples' marks'
     with-bytes n e b' h =
         record {
           number = sym (number ∙ e);
-          beside = h ∙ ap (λ (n : ℕ). besideAfter n b sf) (sym (number ∙ e));
-          sound = t .sound ∙ ap (λ (n : ℕ). cond (eqb n 0) (samplesOf sf (stateFrom b .next)) samples) (sym sized);
-          marked = t .marked ∙ ap (λ (n : ℕ). cond (eqb n 0) (marksOf sf (stateFrom b .next)) marks) (sym sized);
+          beside = h ∙ ap (λ (n : ℕ). besideAfter radius n b sf) (sym (number ∙ e));
+          sound = t .sound ∙ ap (λ (n : ℕ). cond (eqb n 0) (samplesOf radius sf (stateFrom b .next)) samples) (sym sized);
+          marked = t .marked ∙ ap (λ (n : ℕ). cond (eqb n 0) (marksOf radius sf (stateFrom b .next)) marks) (sym sized);
         }
 
-    pub refused-one : r .number ≡ 1 → TookOutside b sf samples marks 1 b samples' marks'
+    pub refused-one : r .number ≡ 1 → TookOutside radius b sf samples marks 1 b samples' marks'
     unfolding besideAfter
     refused-one e = with-bytes 1 e b refl
 
-    pub refused-two : r .number ≡ 2 → TookOutside b sf samples marks 2 b samples' marks'
+    pub refused-two : r .number ≡ 2 → TookOutside radius b sf samples marks 2 b samples' marks'
     unfolding besideAfter
     refused-two e = with-bytes 2 e b refl
 
-    pub taken-by : (r .number ≡ 1 → ⊥) → (r .number ≡ 2 → ⊥) → (b' : List ℕ) → b' ≡ packedOf r → TookOutside b sf samples marks (r .number) b' samples' marks'
+    pub taken-by : (r .number ≡ 1 → ⊥) → (r .number ≡ 2 → ⊥) → (b' : List ℕ) → b' ≡ packedOf r → TookOutside radius b sf samples marks (r .number) b' samples' marks'
     unfolding besideAfter
     taken-by one two b' e =
-        let answer : r ≡ takeAnswer (r .number) (stateFrom b) sf = t .answer ∙ ap (λ (n : ℕ). takeAnswer n (stateFrom b) sf) (sym sized ∙ number) in
+        let answer : r ≡ takeAnswer radius (r .number) (stateFrom b) sf = t .answer ∙ ap (λ (n : ℕ). takeAnswer radius n (stateFrom b) sf) (sym sized ∙ number) in
         with-bytes (r .number) refl b' (e ∙ ap (λ (r : Taken). packedOf r) answer ∙ sym (rw (ne-eqb (r .number) 1 one, ne-eqb (r .number) 2 two)))

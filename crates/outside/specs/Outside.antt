@@ -3,9 +3,9 @@
 --     packedAt next after blocks k
 --                           byte k of the 88, from the two sets of factors and the counts
 --     packedOf t            the 88 bytes behind a superframe: both sets of factors, and for each of the eight positions the clean, mended and bad blocks
---     outsideNumber b sf samples marks
+--     outsideNumber radius b sf samples marks
 --                           the number: 1 for another length than 88, else as taking gives it
---     TookOutside b sf samples marks r b' samples' marks'
+--     TookOutside radius b sf samples marks r b' samples' marks'
 --                           THE PROMISE: the number, and what the lent lists then hold; under 1 and 2 all are untouched, under 3 the bytes are those after a loss
 use mathlib.Core.Path.{_≡_}
 use mathlib.Core.Bool.{cond}
@@ -38,14 +38,14 @@ packedAt next after blocks k =
 abbrev pub packedOf : Taken → List ℕ
 packedOf t = tabulate 88 (packedAt (t .next .next) (t .next .after) (t .blocks))
 
-unfoldable pub outsideNumber : List ℕ → List ℕ → List ℤ → List ℕ → ℕ
-outsideNumber b sf samples marks = cond (eqb (length b) 88) (takeNumber (stateFrom b) sf samples marks) 1
+unfoldable pub outsideNumber : ℕ → List ℕ → List ℕ → List ℤ → List ℕ → ℕ
+outsideNumber radius b sf samples marks = cond (eqb (length b) 88) (takeNumber radius (stateFrom b) sf samples marks) 1
 
-unfoldable pub besideAfter : ℕ → List ℕ → List ℕ → List ℕ
-besideAfter n b sf = cond (eqb n 1) b (cond (eqb n 2) b (packedOf (takeAnswer n (stateFrom b) sf)))
+unfoldable pub besideAfter : ℕ → ℕ → List ℕ → List ℕ → List ℕ
+besideAfter radius n b sf = cond (eqb n 1) b (cond (eqb n 2) b (packedOf (takeAnswer radius n (stateFrom b) sf)))
 
-pub record TookOutside (b sf : List ℕ) (samples : List ℤ) (marks : List ℕ) (r : ℕ) (b' : List ℕ) (samples' : List ℤ) (marks' : List ℕ) : Type 0 where
-  pub number : r ≡ outsideNumber b sf samples marks
-  pub beside : b' ≡ besideAfter (outsideNumber b sf samples marks) b sf
-  pub sound : samples' ≡ cond (eqb (outsideNumber b sf samples marks) 0) (samplesOf sf (stateFrom b .next)) samples
-  pub marked : marks' ≡ cond (eqb (outsideNumber b sf samples marks) 0) (marksOf sf (stateFrom b .next)) marks
+pub record TookOutside (radius : ℕ) (b sf : List ℕ) (samples : List ℤ) (marks : List ℕ) (r : ℕ) (b' : List ℕ) (samples' : List ℤ) (marks' : List ℕ) : Type 0 where
+  pub number : r ≡ outsideNumber radius b sf samples marks
+  pub beside : b' ≡ besideAfter radius (outsideNumber radius b sf samples marks) b sf
+  pub sound : samples' ≡ cond (eqb (outsideNumber radius b sf samples marks) 0) (samplesOf radius sf (stateFrom b .next)) samples
+  pub marked : marks' ≡ cond (eqb (outsideNumber radius b sf samples marks) 0) (marksOf radius sf (stateFrom b .next)) marks

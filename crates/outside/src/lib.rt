@@ -1,4 +1,4 @@
-// For programs in other languages: a superframe taken over lent bytes alone. What is carried from one to the next, but for the service, and the counts stand in
+// For programs in other languages: a superframe taken at a radius over lent bytes alone. What is carried from one to the next, but for the service, and the counts stand in
 // 88 bytes: the factors of the 32 channels for the next superframe and those for the one after it, and for each of the eight block positions how many blocks
 // were clean, mended and bad.
 ghost use mathlib.Core.Path.{_≡_};
@@ -76,17 +76,18 @@ fn put(beside: &mut [u8], next: [u8; 32], after: [u8; 32], blocks: Blocks)
 // Number 0 or 3, and the 88 bytes follow; or 1 or 2, and they stay.
 #[no_mangle]
 pub extern "C" fn outside_take(
+    radius: u8,
     beside: &mut [u8],
     bytes: &[u8],
     samples: &mut [i16],
     marks: &mut [u8],
 ) -> u8
-    ensures { λ r. ⌜ TookOutside (now (beside .entry)) (now (bytes .entry)) (now (samples .entry)) (now (marks .entry)) r (now (beside .exit)) (now (samples .exit)) (now (marks .exit)) ⌝ }
+    ensures { λ r. ⌜ TookOutside radius (now (beside .entry)) (now (bytes .entry)) (now (samples .entry)) (now (marks .entry)) r (now (beside .exit)) (now (samples .exit)) (now (marks .exit)) ⌝ }
 {
     if beside.len() != 88 {
         return 1;
     }
-    let taken = state_from(beside).take(bytes, samples, marks);
+    let taken = state_from(beside).take(radius, bytes, samples, marks);
     let number = taken.number;
     if number == 1 {
         return 1;

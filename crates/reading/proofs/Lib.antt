@@ -4,5 +4,7 @@ pub mod Demand
 pub mod Few
 pub mod Wrong
 pub mod Answered
+pub mod Radius
+pub mod Wider
 pub mod Unique
 pub mod Vectors

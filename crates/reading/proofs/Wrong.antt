@@ -1,10 +1,13 @@
--- The wrong places, in numbers.
+-- The wrong places, in numbers, at every radius from 2 up to the largest.
 --     wrong-found, wrong-none       a mask that fits gives them, however it was found; so does that there is none
+--     as-few                        a mask that fits has at most three ones
+--     as-many                       it has an even number of ones where the remainder has, and an odd one where that has: x + 1 divides the generator
 --     low r, t i                    the remainder's number; what place i alone leaves
---     fits-zero, fits-at, fits-pair     the masks that fit, by equations of numbers
---     none-fits                     where none of these equations holds, none fits
---     answer-zero, answer-one, answer-two, answer-none
---                                   the code's answers, by the same equations
+--     fits-zero, fits-at, fits-pair     the masks with at most two ones that fit, by equations of numbers
+--     pair-fits                     and the equation of a pair that fits
+--     none-fits                     where none of these equations holds, none of them fits
+--     with-first, without-first     a triple fits where the pair of its last two fits what its first place leaves
+--     wrong-zero, wrong-one, wrong-two, wrong-three     the wrong places, where a mask with so many ones fits
 -- Assumes nothing.
 use mathlib.Core.Path.{_≡_, refl, sym, ap, ap₂, _∙_, subst}
 use mathlib.Core.List.{List, [], _∷_, _++_}
@@ -21,20 +24,20 @@ use Rattle.bits.proofs.Digits.{length-digits, below-digits, value-digits, digit
 use Rattle.remainder.specs.Polynomial.{_⊕_, zeros}
 use Rattle.remainder.specs.Remainder.{remainder}
 use Rattle.remainder.specs.Columns.{column, columns}
-use Rattle.remainder.proofs.Sum.{⊕-self, ⊕-cancel, length-⊕, below-⊕, length-zeros, below-zeros}
+use Rattle.remainder.proofs.Sum.{cons, ⊕-self, ⊕-cancel, length-⊕, below-⊕, length-zeros, below-zeros}
 use Rattle.remainder.proofs.Division.{remainder-zeros, remainder-short}
 use Rattle.remainder.proofs.Ones.{ones-zeros, none-zeros}
 use Rattle.remainder.proofs.Columns.{sumAt, length-columns, length-column, below-column}
+use Rattle.remainder.proofs.Parity.{even-remainder}
 use Rattle.remainder.proofs.Register.{digits-xor}
-use Rattle.code.specs.Generators.{blockGenerator}
+use Rattle.code.specs.Generators.{power, powers, blockGenerator}
 use Rattle.code.proofs.Smallest.{block-size}
 use Rattle.reading.specs.Reading.{largestRadius}
 use Rattle.reading.specs.Search.{seek}
-use Rattle.reading.specs.Wrong.{placesFrom, placesIn, wrongPlaces, answer, columnNumbers}
-use Rattle.reading.specs.declared.Places.the-variants.{Zero, One, Two, Nowhere}
+use Rattle.reading.specs.Wrong.{placesFrom, placesIn, wrongPlaces, columnNumbers}
 use Rattle.reading.proofs.Seek.{Fits, Good, seek-good}
 use Rattle.reading.proofs.Fixed.{Sought, fits-sought, sought-unique}
-use Rattle.reading.proofs.Few.{at, pair, length-at, below-at, ones-at, length-pair, below-pair, ones-pair, sumAt-zeros, sumAt-at, sumAt-pair, places-zeros, places-at, places-pair, Few, zero-ones, one-one, two-ones, few}
+use Rattle.reading.proofs.Few.{at, pair, triple, length-at, below-at, ones-at, length-pair, below-pair, ones-pair, length-triple, below-triple, ones-triple, sumAt-zeros, sumAt-at, sumAt-pair, sumAt-triple, places-zeros, places-at, places-pair, places-triple, Few, zero-ones, one-one, two-ones, three-ones, few}
 
 abbrev g : List ℕ
 g = blockGenerator
@@ -44,6 +47,10 @@ cs = columns blockGenerator 63
 
 abbrev pub Fitting : ℕ → ℕ → List ℕ → Type 0
 Fitting radius r m = Fits radius (columns blockGenerator 63) (digits 2 19 r) m
+
+odd-generator : ones blockGenerator % 2 ≡ 1
+unfolding ones blockGenerator powers power _⊕_
+odd-generator = refl
 
 module _ (radius : ℕ) (small : radius ≤ largestRadius) (r : ℕ) where
   -- a word with that remainder
@@ -62,6 +69,12 @@ module _ (radius : ℕ) (small : radius ≤ largestRadius) (r : ℕ) where
 
   as-sought : (m : List ℕ) → Fitting radius r m → Sought radius word m
   as-sought m f = fits-sought radius word m (subst (λ (s : List ℕ). Fits radius cs s m) (sym word-leaves) f)
+
+  pub as-few : (m : List ℕ) → Fitting radius r m → Few 63 m
+  as-few m f = few 63 m (f .sized ∙ length-columns g 63) (f .bits) (omega (arith, f .few))
+
+  pub as-many : (m : List ℕ) → Fitting radius r m → ones (digits 2 19 r) % 2 ≡ ones m % 2
+  as-many m f = ap (λ (l : List ℕ). ones l % 2) (sym (as-sought m f .same ∙ word-leaves)) ∙ even-remainder g odd-generator m
 
   one-fits : (m n : List ℕ) → Fitting radius r m → Fitting radius r n → m ≡ n
   one-fits m n f h = sought-unique radius word m n small word-size (as-sought m f) (as-sought n h)
@@ -139,7 +152,9 @@ module _ (r : ℕ) where
       sumAt-pair cs 63 i j (digits 2 19 r) (length-columns g 63) h l
       ∙ ap₂ _⊕_ (ap₂ _⊕_ (sym (digits-low 19 r)) (t-column i li) ∙ sym (digits-xor 19 (low r) (t i))) (t-column j l)
 
-  pub fits-zero : low r ≡ 0 → Fitting 2 r (zeros 63)
+-- ---- the masks that fit
+module _ (radius : ℕ) (wide : 2 ≤ radius) (r : ℕ) where
+  pub fits-zero : low r ≡ 0 → Fitting radius r (zeros 63)
   fits-zero e =
       record {
         sized = length-zeros 63 ∙ sym (length-columns g 63);
@@ -148,64 +163,96 @@ module _ (r : ℕ) where
         none-left = ap ones (sumAt-zeros 63 cs (digits 2 19 r) ∙ sym (digits-low 19 r) ∙ ap (digits 2 19) e ∙ digits-zero 19) ∙ ones-zeros 19;
       }
 
-  pub fits-at : (i : ℕ) → i < 63 → t i ≡ low r → Fitting 2 r (at 63 i)
+  pub fits-at : (i : ℕ) → i < 63 → t i ≡ low r → Fitting radius r (at 63 i)
   fits-at i l e =
       record {
         sized = length-at 63 i ∙ sym (length-columns g 63);
         bits = below-at 63 i;
         few = omega (arith, ones-at 63 i l);
-        none-left = ap ones (sum-at i l) ∙ equal-zero (low r) (t i) (sym e);
+        none-left = ap ones (sum-at r i l) ∙ equal-zero (low r) (t i) (sym e);
       }
 
-  pub fits-pair : (i j : ℕ) → i < j → j < 63 → t j ≡ bitXor (low r) (t i) → Fitting 2 r (pair 63 i j)
+  pub fits-pair : (i j : ℕ) → i < j → j < 63 → t j ≡ bitXor (low r) (t i) → Fitting radius r (pair 63 i j)
   fits-pair i j h l e =
       record {
         sized = length-pair 63 i j ∙ sym (length-columns g 63);
         bits = below-pair 63 i j;
         few = omega (arith, ones-pair 63 i j h l);
-        none-left = ap ones (sum-pair i j h l) ∙ equal-zero (bitXor (low r) (t i)) (t j) (sym e);
+        none-left = ap ones (sum-pair r i j h l) ∙ equal-zero (bitXor (low r) (t i)) (t j) (sym e);
       }
 
+  pub pair-fits : (i j : ℕ) → i < j → j < 63 → Fitting radius r (pair 63 i j) → t j ≡ bitXor (low r) (t i)
+  pair-fits i j h l f =
+      sym
+      (zero-equal (bitXor (low r) (t i)) (t j) (xor-lt 19 (low r) (t i) (low-small r) (t-small i (omega arith))) (t-small j l)
+      (ap ones (sym (sum-pair r i j h l)) ∙ f .none-left))
+
   pub none-fits : (low r ≡ 0 → ⊥) → ((i : ℕ) → i < 63 → t i ≡ low r → ⊥) → ((i j : ℕ) → i < j → j < 63 → t j ≡ bitXor (low r) (t i) → ⊥)
-      → (m : List ℕ) → Fitting 2 r m → ⊥
-  none-fits not-zero not-one not-two m f = go (few 63 m (f .sized ∙ length-columns g 63) (f .bits) (f .few))
+      → (m : List ℕ) → Fitting radius r m → ones m ≤ 2 → ⊥
+  none-fits not-zero not-one not-two m f two = go (few 63 m (f .sized ∙ length-columns g 63) (f .bits) (omega arith))
     where
       left : (n : List ℕ) → m ≡ n → ones (sumAt cs n (digits 2 19 r)) ≡ 0
       left n e = ap (λ (l : List ℕ). ones (sumAt cs l (digits 2 19 r))) (sym e) ∙ f .none-left
 
       zeroed : ones (digits 2 19 r) ≡ 0 → low r ≡ 0
       zeroed e =
-          zero-equal (low r) 0 low-small (pow-pos 19)
+          zero-equal (low r) 0 (low-small r) (pow-pos 19)
           (ap ones (ap₂ _⊕_ (digits-low 19 r ∙ none-zeros (digits 2 19 r) (below-digits 2 19 r (omega arith)) e ∙ ap zeros (length-digits 2 19 r)) (digits-zero 19)
           ∙ ⊕-self (zeros 19)) ∙ ones-zeros (length (zeros 19)))
 
       go : Few 63 m → ⊥
       go (zero-ones e) = not-zero (zeroed (ap ones (sym (sumAt-zeros 63 cs (digits 2 19 r))) ∙ left (zeros 63) e))
-      go (one-one i l e) = not-one i l (sym (zero-equal (low r) (t i) low-small (t-small i l) (ap ones (sym (sum-at i l)) ∙ left (at 63 i) e)))
-      go (two-ones i j h l e) =
-          let li : i < 63 = omega arith in
-          not-two i j h l
-          (sym
-          (zero-equal (bitXor (low r) (t i)) (t j) (xor-lt 19 (low r) (t i) low-small (t-small i li)) (t-small j l)
-          (ap ones (sym (sum-pair i j h l)) ∙ left (pair 63 i j) e)))
+      go (one-one i l e) = not-one i l (sym (zero-equal (low r) (t i) (low-small r) (t-small i l) (ap ones (sym (sum-at r i l)) ∙ left (at 63 i) e)))
+      go (two-ones i j h l e) = not-two i j h l (pair-fits i j h l (subst (Fitting radius r) e f))
+      go (three-ones i j k a b l e) = omega (arith, two, ap ones e, ones-triple 63 i j k a b l)
 
-  -- ---- what the code answers
-  pub answer-zero : low r ≡ 0 → answer Zero ≡ wrongPlaces 2 r
-  unfolding answer
-  answer-zero e = ap some (sym (places-zeros 0 63)) ∙ sym (wrong-found 2 (omega arith) r (zeros 63) (fits-zero e))
+-- ---- a first place and the rest
+abbrev pub rest : ℕ → ℕ → ℕ
+rest r i = bitXor (low r) (t i)
 
-  pub answer-one : (i : ℕ) → i < 63 → t i ≡ low r → answer (One i) ≡ wrongPlaces 2 r
-  unfolding answer
-  answer-one i l e =
-      ap (λ (p : ℕ). some (p ∷ [])) (sym (zero-add i)) ∙ ap some (sym (places-at 0 63 i l)) ∙ sym (wrong-found 2 (omega arith) r (at 63 i) (fits-at i l e))
+module _ (r i : ℕ) (l : i < 63) where
+  pub rest-small : rest r i < 2 ^ 19
+  rest-small = xor-lt 19 (low r) (t i) (low-small r) (t-small i l)
 
-  pub answer-two : (i j : ℕ) → i < j → j < 63 → t j ≡ bitXor (low r) (t i) → answer (Two i j) ≡ wrongPlaces 2 r
-  unfolding answer
-  answer-two i j h l e =
-      ap₂ (λ (p q : ℕ). some (p ∷ q ∷ [])) (sym (zero-add i)) (sym (zero-add j)) ∙ ap some (sym (places-pair 0 63 i j h l))
-      ∙ sym (wrong-found 2 (omega arith) r (pair 63 i j) (fits-pair i j h l e))
+  module _ (j k : ℕ) (h : i < j) (b : j < k) (w : k < 63) where
+    same-sum : sumAt cs (triple 63 i j k) (digits 2 19 r) ≡ sumAt cs (pair 63 j k) (digits 2 19 (rest r i))
+    same-sum =
+        sumAt-triple cs 63 i j k (digits 2 19 r) (length-columns g 63) h b w
+        ∙ ap (sumAt cs (pair 63 j k)) (sym (digits-xor 19 (low r) (t i) ∙ ap₂ _⊕_ (digits-low 19 r) (sym (t-column i l))))
 
-  pub answer-none : (low r ≡ 0 → ⊥) → ((i : ℕ) → i < 63 → t i ≡ low r → ⊥) → ((i j : ℕ) → i < j → j < 63 → t j ≡ bitXor (low r) (t i) → ⊥)
-      → answer Nowhere ≡ wrongPlaces 2 r
-  unfolding answer
-  answer-none not-zero not-one not-two = sym (wrong-none 2 (omega arith) r (none-fits not-zero not-one not-two))
+    pub with-first : Fitting 2 (rest r i) (pair 63 j k) → Fitting 3 r (triple 63 i j k)
+    with-first f =
+        record {
+          sized = length-triple 63 i j k ∙ sym (length-columns g 63);
+          bits = below-triple 63 i j k;
+          few = omega (arith, ones-triple 63 i j k h b w);
+          none-left = ap ones same-sum ∙ f .none-left;
+        }
+
+    pub without-first : Fitting 3 r (triple 63 i j k) → Fitting 2 (rest r i) (pair 63 j k)
+    without-first f =
+        record {
+          sized = length-pair 63 j k ∙ sym (length-columns g 63);
+          bits = below-pair 63 j k;
+          few = omega (arith, ones-pair 63 j k b w);
+          none-left = ap ones (sym same-sum) ∙ f .none-left;
+        }
+
+-- ---- the wrong places
+module _ (radius : ℕ) (wide : 2 ≤ radius) (small : radius ≤ largestRadius) (r : ℕ) where
+  pub wrong-zero : low r ≡ 0 → some [] ≡ wrongPlaces radius r
+  wrong-zero e = ap some (sym (places-zeros 0 63)) ∙ sym (wrong-found radius small r (zeros 63) (fits-zero radius wide r e))
+
+  pub wrong-one : (i : ℕ) → i < 63 → t i ≡ low r → some (i ∷ []) ≡ wrongPlaces radius r
+  wrong-one i l e =
+      ap some (sym (places-at 0 63 i l ∙ cons (zero-add i) refl)) ∙ sym (wrong-found radius small r (at 63 i) (fits-at radius wide r i l e))
+
+  pub wrong-two : (i j : ℕ) → i < j → j < 63 → t j ≡ bitXor (low r) (t i) → some (i ∷ j ∷ []) ≡ wrongPlaces radius r
+  wrong-two i j h l e =
+      ap some (sym (places-pair 0 63 i j h l ∙ cons (zero-add i) (cons (zero-add j) refl)))
+      ∙ sym (wrong-found radius small r (pair 63 i j) (fits-pair radius wide r i j h l e))
+
+pub wrong-three : (r i j k : ℕ) → i < j → j < k → k < 63 → Fitting 3 r (triple 63 i j k) → some (i ∷ j ∷ k ∷ []) ≡ wrongPlaces 3 r
+wrong-three r i j k h b w f =
+    ap some (sym (places-triple 0 63 i j k h b w ∙ cons (zero-add i) (cons (zero-add j) (cons (zero-add k) refl))))
+    ∙ sym (wrong-found 3 (omega arith) r (triple 63 i j k) f)

@@ -1,13 +1,10 @@
-// Which of the 63 protected bits of a block are wrong, from the remainder that they leave.
+// Which of the 63 protected bits of a block are wrong, at most two or at most three of them, and what each alone leaves as a remainder.
 ghost use mathlib.Core.Path.{_≡_};
-ghost use Prim.Native.Nat.{_≤_, _<_};
-ghost use lib.ListN.{getD};
-ghost use Rattle.reading.specs.Wrong.{columnNumbers, First, wrongPlaces, answer};
+ghost use Rattle.reading.specs.Reading.{isRadius};
+ghost use Rattle.reading.specs.Wrong.{columnNumbers};
 
-const PLACES: usize = 63;
-
-// 2^19: a remainder has 19 digits.
-const REMAINDERS: u32 = 524288;
+// The ordinary radius: at most so many places are mended.
+pub const ORDINARY: u8 = 2;
 
 // What each place alone leaves, the first place first.
 const COLUMNS: [u32; 63] = [
@@ -76,15 +73,25 @@ const COLUMNS: [u32; 63] = [
     1,
 ];
 
-// Places are counted from 0.
+// Places are counted from 0, the lowest first.
 pub enum Places {
     // The word is a code word.
     Zero,
     One(usize),
-    // The lower place first.
     Two(usize, usize),
-    // No set of at most two places leaves that remainder.
+    Three(usize, usize, usize),
+    // No set of so few places leaves that remainder.
     Nowhere,
+}
+
+// Whether a block may be read at a radius: at 2, or at 3 (document 02, P9).
+pub fn is_radius(radius: u8) -> bool
+    ensures { λ r. ⌜ r ≡ isRadius radius ⌝ }
+{
+    if radius == 2 {
+        return true;
+    }
+    radius == 3
 }
 
 // What each place alone leaves.
@@ -92,43 +99,4 @@ pub fn columns() -> [u32; 63]
     ensures { λ r. ⌜ r ≡ columnNumbers ⌝ }
 {
     COLUMNS
-}
-
-// The first place from a place on that alone leaves a remainder, or 63.
-fn place_of(columns: &[u32; 63], remainder: u32, from: usize) -> usize
-    ensures { λ r. ⌜ First (now (columns .entry)) remainder from r ⌝ }
-{
-    let mut i = from;
-    while i < PLACES {
-        if columns[i] == remainder {
-            return i;
-        }
-        i += 1;
-    }
-    PLACES
-}
-
-// The places, at most two, that leave a remainder, given as the number of its 19 digits.
-pub fn places_of(remainder: u32) -> Places
-    ensures { λ r. ⌜ answer r ≡ wrongPlaces 2 remainder ⌝ }
-{
-    let low = remainder % REMAINDERS;
-    if low == 0 {
-        return Places::Zero;
-    }
-    let table = columns();
-    let one = place_of(&table, low, 0);
-    if one < PLACES {
-        return Places::One(one);
-    }
-    let mut i: usize = 0;
-    while i < PLACES {
-        let rest = low ^ table[i];
-        let other = place_of(&table, rest, i + 1);
-        if other < PLACES {
-            return Places::Two(i, other);
-        }
-        i += 1;
-    }
-    Places::Nowhere
 }

@@ -1,10 +1,11 @@
-// The samples and marks of a superframe at given factors (docs/FORMAT.md, "Superframe"), each of its 512 blocks into its own four places of two lent slices.
+// The samples and marks of a superframe, read at a radius, at given factors (docs/FORMAT.md, "Superframe"; document 02, P9), each of its 512 blocks into its own four places of two lent slices.
 ghost use mathlib.Core.Path.{_≡_};
 ghost use mathlib.Core.Bool.{true};
 ghost use Prim.Native.Nat.{_+_, _*_, _<_};
 ghost use lib.ListN.{length};
 ghost use Rattle.bits.specs.Table.{tabulate};
 ghost use Rattle.sample.specs.Sample.{isCode};
+ghost use Rattle.reading.specs.Reading.{isRadius};
 ghost use Rattle.words.specs.Words.{Tables};
 ghost use Rattle.tape.specs.Tape.{blockMark, inEights};
 ghost use Rattle.sound.specs.Sound.{soundAt, markWith, inRows, sampleAt, markAt, samplesOf, marksOf, lengthsFit, Filled};
@@ -36,6 +37,7 @@ fn four(
     pairs: &[u32; 1953],
     places: &[u16; 1953],
     starts: &[u16; 257],
+    radius: u8,
     sf: &[u8],
     n: usize,
     factors: &[u8; 32],
@@ -46,9 +48,10 @@ fn four(
     requires { ⌜ length (now samples) ≡ 4 ⌝ }
     requires { ⌜ length (now marks) ≡ 4 ⌝ }
     requires { ⌜ Tables (now table) (now singles) (now pairs) (now places) (now starts) ⌝ }
-    ensures { λ r. ⌜ r ≡ inEights (blockMark (now (sf .entry))) n ⌝ }
-    ensures { λ _. ⌜ now (samples .exit) ≡ tabulate 4 (λ j. inRows (sampleAt (now (sf .entry)) (now (factors .entry))) (4 * n + j)) ⌝ }
-    ensures { λ _. ⌜ now (marks .exit) ≡ tabulate 4 (λ j. inRows (markAt (now (sf .entry)) (now (factors .entry))) (4 * n + j)) ⌝ }
+    requires { ⌜ isRadius radius ≡ true ⌝ }
+    ensures { λ r. ⌜ r ≡ inEights (blockMark radius (now (sf .entry))) n ⌝ }
+    ensures { λ _. ⌜ now (samples .exit) ≡ tabulate 4 (λ j. inRows (sampleAt radius (now (sf .entry)) (now (factors .entry))) (4 * n + j)) ⌝ }
+    ensures { λ _. ⌜ now (marks .exit) ≡ tabulate 4 (λ j. inRows (markAt radius (now (sf .entry)) (now (factors .entry))) (4 * n + j)) ⌝ }
 {
     let block = tape::read_at(
         table,
@@ -56,6 +59,7 @@ fn four(
         pairs,
         places,
         starts,
+        radius,
         sf,
         (n / 8) as u8,
         (n % 8) as u8,
@@ -82,6 +86,7 @@ fn fill_by(
     pairs: &[u32; 1953],
     places: &[u16; 1953],
     starts: &[u16; 257],
+    radius: u8,
     sf: &[u8],
     factors: &[u8; 32],
     samples: &mut [i16],
@@ -91,9 +96,10 @@ fn fill_by(
     requires { ⌜ length (now samples) ≡ 2048 ⌝ }
     requires { ⌜ length (now marks) ≡ 2048 ⌝ }
     requires { ⌜ Tables (now table) (now singles) (now pairs) (now places) (now starts) ⌝ }
-    ensures { λ r. ⌜ r ≡ tabulate 512 (inEights (blockMark (now (sf .entry)))) ⌝ }
-    ensures { λ _. ⌜ now (samples .exit) ≡ samplesOf (now (sf .entry)) (now (factors .entry)) ⌝ }
-    ensures { λ _. ⌜ now (marks .exit) ≡ marksOf (now (sf .entry)) (now (factors .entry)) ⌝ }
+    requires { ⌜ isRadius radius ≡ true ⌝ }
+    ensures { λ r. ⌜ r ≡ tabulate 512 (inEights (blockMark radius (now (sf .entry)))) ⌝ }
+    ensures { λ _. ⌜ now (samples .exit) ≡ samplesOf radius (now (sf .entry)) (now (factors .entry)) ⌝ }
+    ensures { λ _. ⌜ now (marks .exit) ≡ marksOf radius (now (sf .entry)) (now (factors .entry)) ⌝ }
 {
     let mut out = [0u8; 512];
     let mut n: usize = 0;
@@ -106,6 +112,7 @@ fn fill_by(
             pairs,
             places,
             starts,
+            radius,
             sf,
             n,
             factors,
@@ -119,13 +126,20 @@ fn fill_by(
 }
 
 // The same, with the tables made.
-fn fill_all(sf: &[u8], factors: &[u8; 32], samples: &mut [i16], marks: &mut [u8]) -> [u8; 512]
+fn fill_all(
+    radius: u8,
+    sf: &[u8],
+    factors: &[u8; 32],
+    samples: &mut [i16],
+    marks: &mut [u8],
+) -> [u8; 512]
     requires { ⌜ length (now sf) ≡ 5120 ⌝ }
     requires { ⌜ length (now samples) ≡ 2048 ⌝ }
     requires { ⌜ length (now marks) ≡ 2048 ⌝ }
-    ensures { λ r. ⌜ r ≡ tabulate 512 (inEights (blockMark (now (sf .entry)))) ⌝ }
-    ensures { λ _. ⌜ now (samples .exit) ≡ samplesOf (now (sf .entry)) (now (factors .entry)) ⌝ }
-    ensures { λ _. ⌜ now (marks .exit) ≡ marksOf (now (sf .entry)) (now (factors .entry)) ⌝ }
+    requires { ⌜ isRadius radius ≡ true ⌝ }
+    ensures { λ r. ⌜ r ≡ tabulate 512 (inEights (blockMark radius (now (sf .entry)))) ⌝ }
+    ensures { λ _. ⌜ now (samples .exit) ≡ samplesOf radius (now (sf .entry)) (now (factors .entry)) ⌝ }
+    ensures { λ _. ⌜ now (marks .exit) ≡ marksOf radius (now (sf .entry)) (now (factors .entry)) ⌝ }
 {
     let table = code::remainders();
     let singles = reading::columns();
@@ -138,6 +152,7 @@ fn fill_all(sf: &[u8], factors: &[u8; 32], samples: &mut [i16], marks: &mut [u8]
         &pairs,
         &places,
         &starts,
+        radius,
         sf,
         factors,
         samples,
@@ -159,16 +174,25 @@ pub fn lengths_fit(bytes: usize, samples: usize, marks: usize) -> bool
 }
 
 // Refused, nothing is written: all 128 syncs are looked at before the first sample.
-pub fn fill(bytes: &[u8], factors: &[u8; 32], samples: &mut [i16], marks: &mut [u8]) -> Counted
-    ensures { λ r. ⌜ Filled (now (bytes .entry)) (now (factors .entry)) (now (samples .entry)) (now (marks .entry)) r (now (samples .exit)) (now (marks .exit)) ⌝ }
+pub fn fill(
+    radius: u8,
+    bytes: &[u8],
+    factors: &[u8; 32],
+    samples: &mut [i16],
+    marks: &mut [u8],
+) -> Counted
+    ensures { λ r. ⌜ Filled radius (now (bytes .entry)) (now (factors .entry)) (now (samples .entry)) (now (marks .entry)) r (now (samples .exit)) (now (marks .exit)) ⌝ }
 {
     if !lengths_fit(bytes.len(), samples.len(), marks.len()) {
         return tape::refused(1);
+    }
+    if !reading::is_radius(radius) {
+        return tape::refused(2);
     }
     let syncs = tape::syncs(bytes);
     if syncs.number != 0 {
         return tape::refused(syncs.number);
     }
-    let read = fill_all(bytes, factors, samples, marks);
+    let read = fill_all(radius, bytes, factors, samples, marks);
     tape::gathered(syncs.wrong, read)
 }

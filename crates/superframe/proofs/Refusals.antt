@@ -1,5 +1,6 @@
 -- What the reader's methods refuse, in document 01's words and order ("Numbers given").
---     tells-lengths, tells-state     the code's tests tell whether a length is wrong, and whether a number of the state is out of its range
+--     tells-lengths, tells-state, tells-takable
+--                               the code's tests tell whether a length is wrong, whether a number of the state is out of its range, and whether that or the radius is
 --     number-is, numbered       the number of an answer
 --     take-refuses, lose-refuses, service-refuses       THE REFUSALS of the three methods
 -- Assumes nothing.
@@ -19,6 +20,8 @@ use Rattle.bits.specs.Order.{Ordered}
 use Rattle.bits.proofs.Tests.{either-way, both-true, both-left, both-right}
 use Rattle.bits.proofs.Every.{every-missed}
 use Rattle.bits.proofs.Order.{Tells, tells-nothing, in-order}
+use Rattle.reading.specs.Reading.{isRadius, OtherRadius}
+use Rattle.reading.proofs.Radius.{tells-radius}
 use Rattle.tape.specs.Tape.{synced}
 use Rattle.tape.specs.Faults.{WrongSync}
 use Rattle.tape.proofs.Faults.{tells-sync}
@@ -29,7 +32,7 @@ use Rattle.service_sync.specs.declared.Kind.{Kind}
 use Rattle.service_sync.specs.declared.Kind.the-variants.{First, Second, Neither}
 use Rattle.service.specs.Service.{inRange, accepts, refusedService, served}
 use Rattle.superframe.specs.State.{factorsOf, factorsInRange, serviceOf, stateInRange, lostWith, servicedBy, servicedWith}
-use Rattle.superframe.specs.Take.{takeNumber, besideWith, refusedWith, stateUnder, takeAnswer, Took}
+use Rattle.superframe.specs.Take.{takable, takeNumber, besideWith, refusedWith, stateUnder, takeAnswer, Took}
 use Rattle.superframe.specs.Document.{WrongLength, bytes, places, marked, OutOfRange, next, after, position, stage, NoBits, no-bit, TakeRefuses, LoseRefuses, ServiceRefuses}
 use Rattle.superframe.specs.declared.state.State.{State}
 use Rattle.superframe.specs.declared.taking.Taken.{Taken}
@@ -111,44 +114,56 @@ module _ (s : State) where
   pub tells-state : Tells (OutOfRange s) (stateInRange s)
   tells-state = record { there = out; away = within }
 
+pub tells-takable : (radius : ℕ) (s : State) → Tells (OutOfRange s ⊎ OtherRadius radius) (takable radius s)
+unfolding takable
+tells-takable radius s =
+    either-way (isRadius radius)
+    (λ t.
+    rw t
+    (record {
+      there = λ e. inl (tells-state s .there e);
+      away = λ e. ⊎-elim (tells-state s .away e) (tells-radius radius .away t);
+    }))
+    (λ t. rw t (record { there = λ e. inr (tells-radius radius .there t); away = λ e. absurd (true≢false (sym e)) }))
+
 -- ---- taking a superframe
-pub number-is : (n : ℕ) (s : State) (sf : List ℕ) → takeAnswer n s sf .number ≡ n
+pub number-is : (radius n : ℕ) (s : State) (sf : List ℕ) → takeAnswer radius n s sf .number ≡ n
 unfolding takeAnswer besideWith refusedWith
-number-is n s sf = either-way (eqb n 0) (λ t. rw t (sym (eqb-true n 0 t))) (λ t. rw t)
+number-is radius n s sf = either-way (eqb n 0) (λ t. rw t (sym (eqb-true n 0 t))) (λ t. rw t)
 
 -- the state under a refusal
-under : (n : ℕ) (s : State) (sf : List ℕ) → eqb n 0 ≡ false → takeAnswer n s sf .next ≡ stateUnder n s
+under : (radius n : ℕ) (s : State) (sf : List ℕ) → eqb n 0 ≡ false → takeAnswer radius n s sf .next ≡ stateUnder n s
 unfolding takeAnswer refusedWith
-under n s sf e = rw e
+under radius n s sf e = rw e
 
-module _ (s : State) (sf : List ℕ) (samples : List ℤ) (marks : List ℕ) (r : Taken) (samples' : List ℤ) (marks' : List ℕ) (t : Took s sf samples marks r samples' marks') where
+module _ (radius : ℕ) (s : State) (sf : List ℕ) (samples : List ℤ) (marks : List ℕ) (r : Taken) (samples' : List ℤ) (marks' : List ℕ) (t : Took radius s sf samples marks r samples' marks') where
   abbrev number : ℕ
-  number = takeNumber s sf samples marks
+  number = takeNumber radius s sf samples marks
 
   pub numbered : number ≡ r .number
-  numbered = sym (ap (λ (r : Taken). r .number) (t .answer) ∙ number-is number s sf)
+  numbered = sym (ap (λ (r : Taken). r .number) (t .answer) ∙ number-is radius number s sf)
 
-  in-three : Ordered (WrongLength sf samples marks) (OutOfRange s) (WrongSync sf) number
+  in-three : Ordered (WrongLength sf samples marks) (OutOfRange s ⊎ OtherRadius radius) (WrongSync sf) number
   unfolding takeNumber
   in-three =
-      in-order (lengthsFit (length sf) (length samples) (length marks)) (stateInRange s) (synced sf) (tells-lengths sf samples marks) (tells-state s) (tells-sync sf)
+      in-order (lengthsFit (length sf) (length samples) (length marks)) (takable radius s) (synced sf) (tells-lengths sf samples marks) (tells-takable radius s) (tells-sync sf)
 
   state-is : (n : ℕ) → r .number ≡ n → eqb n 0 ≡ false → r .next ≡ stateUnder n s
   state-is n e z =
-      ap (λ (r : Taken). r .next) (t .answer) ∙ ap (λ (n : ℕ). takeAnswer n s sf .next) (numbered ∙ e) ∙ under n s sf z
+      ap (λ (r : Taken). r .next) (t .answer) ∙ ap (λ (n : ℕ). takeAnswer radius n s sf .next) (numbered ∙ e) ∙ under radius n s sf z
 
   -- 3 is given to a state in range alone
   ranged : r .number ≡ 3 → stateInRange s ≡ true
-  unfolding takeNumber
+  unfolding takeNumber takable
   ranged e =
       either-way (lengthsFit (length sf) (length samples) (length marks))
-      (λ f. either-way (stateInRange s) (λ u. u) (λ u. let z : number ≡ 2 = rw (f, u) in absurd (omega (arith, numbered))))
+      (λ f. either-way (takable radius s) (λ u. both-right (isRadius radius) (stateInRange s) u) (λ u. let z : number ≡ 2 = rw (f, u) in absurd (omega (arith, numbered))))
       (λ f. let z : number ≡ 1 = rw f in absurd (omega (arith, numbered)))
 
-  pub take-refuses : TakeRefuses s sf samples marks r samples' marks'
+  pub take-refuses : TakeRefuses radius s sf samples marks r samples' marks'
   take-refuses =
       record {
-        order = subst (Ordered (WrongLength sf samples marks) (OutOfRange s) (WrongSync sf)) numbered in-three;
+        order = subst (Ordered (WrongLength sf samples marks) (OutOfRange s ⊎ OtherRadius radius) (WrongSync sf)) numbered in-three;
         given = ⊎-elim (λ e. state-is 1 e refl) (λ e. state-is 2 e refl);
         lost = λ e. state-is 3 e refl ∙ sym (lost-next s (ranged e));
         untouched = λ h.

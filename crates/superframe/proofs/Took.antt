@@ -14,6 +14,7 @@ use lib.IntN.{ℤ}
 use lib.ListN.{length}
 use Rattle.bits.proofs.Tests.{either-way}
 use borrow.Author.Tests.{eq-eqb}
+use Rattle.reading.specs.Reading.{isRadius}
 use Rattle.tape.specs.Tape.{synced, wrongBits, blocksOf, refusedCounts, countedWith, syncNumber}
 use Rattle.sound.specs.Sound.{samplesOf, marksOf, lengthsFit, fillNumber, Filled}
 use Rattle.sound.proofs.Samples.{fits}
@@ -27,14 +28,14 @@ pub lost-next : (s : State) → stateInRange s ≡ true → lostWith s .next ≡
 unfolding lostWith
 lost-next s e = rw e
 
-module _ (sf factors : List ℕ) (samples : List ℤ) (marks : List ℕ) (r : Counted) (samples' : List ℤ) (marks' : List ℕ)
-    (f : Filled sf factors samples marks r samples' marks') (fit : lengthsFit (length sf) (length samples) (length marks) ≡ true) where
-  numbered : fillNumber sf samples marks ≡ cond (synced sf) 0 3
+module _ (radius : ℕ) (chosen : isRadius radius ≡ true) (sf factors : List ℕ) (samples : List ℤ) (marks : List ℕ) (r : Counted) (samples' : List ℤ) (marks' : List ℕ)
+    (f : Filled radius sf factors samples marks r samples' marks') (fit : lengthsFit (length sf) (length samples) (length marks) ≡ true) where
+  numbered : fillNumber radius sf samples marks ≡ cond (synced sf) 0 3
   unfolding fillNumber syncNumber
-  numbered = rw (fit, eq-eqb (length sf) 5120 (fits (length sf) (length samples) (length marks) fit .0))
+  numbered = rw (fit, chosen, eq-eqb (length sf) 5120 (fits (length sf) (length samples) (length marks) fit .0))
 
-  counted : (n : ℕ) → cond (synced sf) 0 3 ≡ n → r ≡ countedWith n sf
-  counted n e = f .answer ∙ ap (λ (n : ℕ). countedWith n sf) (numbered ∙ e)
+  counted : (n : ℕ) → cond (synced sf) 0 3 ≡ n → r ≡ countedWith radius n sf
+  counted n e = f .answer ∙ ap (λ (n : ℕ). countedWith radius n sf) (numbered ∙ e)
 
   number-good : synced sf ≡ true → r .number ≡ 0
   unfolding countedWith
@@ -44,27 +45,27 @@ module _ (sf factors : List ℕ) (samples : List ℤ) (marks : List ℕ) (r : Co
   unfolding countedWith refusedCounts
   number-lost t = ap (λ (r : Counted). r .number) (counted 3 (rw t))
 
-  pub good-fill : r .number ≡ 0 → (synced sf ≡ true) × (r .wrong ≡ wrongBits sf) × (r .blocks ≡ blocksOf sf) × (samples' ≡ samplesOf sf factors) × (marks' ≡ marksOf sf factors)
+  pub good-fill : r .number ≡ 0 → (synced sf ≡ true) × (r .wrong ≡ wrongBits sf) × (r .blocks ≡ blocksOf radius sf) × (samples' ≡ samplesOf radius sf factors) × (marks' ≡ marksOf radius sf factors)
   unfolding countedWith
   good-fill z =
       let t : synced sf ≡ true = either-way (synced sf) (λ t. t) (λ t. absurd (omega (arith, z, number-lost t))) in
-      let e : fillNumber sf samples marks ≡ 0 = numbered ∙ rw t in
+      let e : fillNumber radius sf samples marks ≡ 0 = numbered ∙ rw t in
       let all = counted 0 (rw t) in
       (t, ap (λ (r : Counted). r .wrong) all, ap (λ (r : Counted). r .blocks) all, f .sound ∙ rw e, f .marked ∙ rw e)
 
   pub lost-fill : (r .number ≡ 0 → ⊥) → (synced sf ≡ false) × (samples' ≡ samples) × (marks' ≡ marks)
   lost-fill z =
       let t : synced sf ≡ false = either-way (synced sf) (λ t. absurd (z (number-good t))) (λ t. t) in
-      let e : fillNumber sf samples marks ≡ 3 = numbered ∙ rw t in
+      let e : fillNumber radius sf samples marks ≡ 3 = numbered ∙ rw t in
       (t, f .sound ∙ rw e, f .marked ∙ rw e)
 
-module _ (s : State) (sf : List ℕ) (samples : List ℤ) (marks : List ℕ) (r : Taken) (samples' : List ℤ) (marks' : List ℕ) where
-  pub refused-took : (n : ℕ) → takeNumber s sf samples marks ≡ n → eqb n 0 ≡ false → r ≡ refusedWith n (stateUnder n s)
-      → samples' ≡ samples → marks' ≡ marks → Took s sf samples marks r samples' marks'
+module _ (radius : ℕ) (s : State) (sf : List ℕ) (samples : List ℤ) (marks : List ℕ) (r : Taken) (samples' : List ℤ) (marks' : List ℕ) where
+  pub refused-took : (n : ℕ) → takeNumber radius s sf samples marks ≡ n → eqb n 0 ≡ false → r ≡ refusedWith n (stateUnder n s)
+      → samples' ≡ samples → marks' ≡ marks → Took radius s sf samples marks r samples' marks'
   unfolding takeAnswer
   refused-took n e z q x m = record { answer = rw (e, z) q; sound = rw (e, z) x; marked = rw (e, z) m }
 
-  pub answered-took : takeNumber s sf samples marks ≡ 0 → r ≡ besideWith s sf (wrongBits sf) (blocksOf sf)
-      → samples' ≡ samplesOf sf (s .next) → marks' ≡ marksOf sf (s .next) → Took s sf samples marks r samples' marks'
+  pub answered-took : takeNumber radius s sf samples marks ≡ 0 → r ≡ besideWith s sf (wrongBits sf) (blocksOf radius sf)
+      → samples' ≡ samplesOf radius sf (s .next) → marks' ≡ marksOf radius sf (s .next) → Took radius s sf samples marks r samples' marks'
   unfolding takeAnswer
   answered-took e q x m = record { answer = rw e q; sound = rw e x; marked = rw e m }

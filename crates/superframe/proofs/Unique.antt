@@ -21,6 +21,6 @@ module _ (s : State) where
   pub take-service-unique : (r r' : Serviced) (six sync : List ℕ) → r ≡ servicedWith s six sync → r' ≡ servicedWith s six sync → r ≡ r'
   take-service-unique r r' six sync = same
 
-module _ (s : State) (sf : List ℕ) (samples : List ℤ) (marks : List ℕ) (r r' : Taken) (x x' : List ℤ) (m m' : List ℕ) where
-  pub take-unique : Took s sf samples marks r x m → Took s sf samples marks r' x' m' → (r ≡ r') × (x ≡ x') × (m ≡ m')
+module _ (radius : ℕ) (s : State) (sf : List ℕ) (samples : List ℤ) (marks : List ℕ) (r r' : Taken) (x x' : List ℤ) (m m' : List ℕ) where
+  pub take-unique : Took radius s sf samples marks r x m → Took radius s sf samples marks r' x' m' → (r ≡ r') × (x ≡ x') × (m ≡ m')
   take-unique a b = (same (a .answer) (b .answer), same (a .sound) (b .sound), same (a .marked) (b .marked))

@@ -2,7 +2,7 @@
 --     WrongLength sf samples marks      "a lent length is wrong"
 --     OutOfRange s                      "a given number (in a state ..) is out of its range": factors 0 to 7 and 8 for missing, position and stage 0 to 8
 --     NoBits sync                       the same of a sync's entries, which are 0 or 1
---     TakeRefuses ..                    taking a superframe: the numbers in their order; "state as before" under 1, "state as given" under 2, "the state after one
+--     TakeRefuses ..                    taking a superframe: the numbers in their order, and document 02, P9: "2 for a radius other than two or three, after 1"; "state as before" under 1, "state as given" under 2, "the state after one
 --                                       lost superframe" under 3; "a refusal writes into no lent buffer"
 --     LoseRefuses s r, ServiceRefuses s sync r      the same of losing one, and of six service bytes
 --     Serves s sf r                     taking a superframe does with its six bytes and its sync what `take_service` does with them
@@ -13,6 +13,7 @@ use mathlib.Core.List.{List}
 use lib.IntN.{ℤ}
 use lib.ListN.{length, getD}
 use Rattle.bits.specs.Order.{Ordered}
+use Rattle.reading.specs.Reading.{OtherRadius}
 use Rattle.tape.specs.Faults.{WrongSync}
 use Rattle.beside.specs.Beside.{sixAndSync}
 use Rattle.superframe.specs.State.{serviceOf, lostWith, servicedWith}
@@ -35,8 +36,8 @@ pub data OutOfRange (s : State) : Type 0 where
 pub data NoBits (sync : List ℕ) : Type 0 where
   no-bit : (j : ℕ) → 1 < getD sync j 0 → NoBits sync
 
-pub record TakeRefuses (s : State) (sf : List ℕ) (samples : List ℤ) (marks : List ℕ) (r : Taken) (samples' : List ℤ) (marks' : List ℕ) : Type 0 where
-  pub order : Ordered (WrongLength sf samples marks) (OutOfRange s) (WrongSync sf) (r .number)
+pub record TakeRefuses (radius : ℕ) (s : State) (sf : List ℕ) (samples : List ℤ) (marks : List ℕ) (r : Taken) (samples' : List ℤ) (marks' : List ℕ) : Type 0 where
+  pub order : Ordered (WrongLength sf samples marks) (OutOfRange s ⊎ OtherRadius radius) (WrongSync sf) (r .number)
   pub given : (r .number ≡ 1) ⊎ (r .number ≡ 2) → r .next ≡ s
   pub lost : r .number ≡ 3 → r .next ≡ lostWith s .next
   pub untouched : r .number ≢ 0 → (samples' ≡ samples) × (marks' ≡ marks)

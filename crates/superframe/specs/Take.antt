@@ -1,20 +1,24 @@
--- Taking a superframe (document 01, "Superframe", "Numbers given").
---     takeNumber s sf samples marks     the number: 1 for a wrong length, then 2 for a state out of range, then 3 for a wrong sync, else 0
+-- Taking a superframe (document 01, "Superframe", "Numbers given"; document 02, P9).
+--     takable radius s      the radius is 2 or 3, and the state in its range
+--     takeNumber radius s sf samples marks
+--                           the number: 1 for a wrong length, then 2 for another radius or a state out of range, then 3 for a wrong sync, else 0
 --     takenFactors s sf     the factors move on by one, and those read hold for the superframe after the next
 --     besideWith s sf w b   the answer where nothing is refused, with w wrong bits in its syncs and the readings counted as b
 --     noProgrammes          of a refused superframe: zeros
 --     refusedWith n s       number n, zeros, and a state
 --     stateUnder n s        the state that comes back with a refusal: with 3 that after one lost superframe, with 1 and 2 the one given
---     takeAnswer n s sf     the answer by its number
---     Took s sf samples marks r samples' marks'     THE PROMISE: the answer, and what the two lent lists then hold; refused, they are untouched
+--     takeAnswer radius n s sf      the answer by its number
+--     Took radius s sf samples marks r samples' marks'
+--                           THE PROMISE: the answer, and what the two lent lists then hold; refused, they are untouched
 use Prim.Native.Nat.{ℕ}
 use mathlib.Core.Path.{_≡_}
-use mathlib.Core.Bool.{false, cond}
+use mathlib.Core.Bool.{Bool, false, cond}
 use mathlib.Core.List.{List}
 use lib.Dec.{eqb}
 use lib.IntN.{ℤ}
 use lib.ListN.{length}
 use Rattle.bits.specs.Table.{zeros}
+use Rattle.reading.specs.Reading.{isRadius}
 use Rattle.service.specs.Service.{served}
 use Rattle.service.specs.declared.Served.{Served}
 use Rattle.tape.specs.Tape.{synced, wrongBits, blocksOf, noBlocks}
@@ -26,9 +30,12 @@ use Rattle.superframe.specs.State.{Factors, joinedState, serviceOf, stat
 use Rattle.superframe.specs.declared.state.State.{State}
 use Rattle.superframe.specs.declared.taking.Taken.{Taken}
 
-unfoldable pub takeNumber : State → List ℕ → List ℤ → List ℕ → ℕ
-takeNumber s sf samples marks =
-    cond (lengthsFit (length sf) (length samples) (length marks)) (cond (stateInRange s) (cond (synced sf) 0 3) 2) 1
+unfoldable pub takable : ℕ → State → Bool
+takable radius s = cond (isRadius radius) (stateInRange s) false
+
+unfoldable pub takeNumber : ℕ → State → List ℕ → List ℤ → List ℕ → ℕ
+takeNumber radius s sf samples marks =
+    cond (lengthsFit (length sf) (length samples) (length marks)) (cond (takable radius s) (cond (synced sf) 0 3) 2) 1
 
 abbrev pub takenFactors : State → List ℕ → Factors
 takenFactors s sf = record { next = s .after; after = programmesOf sf .factors }
@@ -72,11 +79,11 @@ refusedWith n s =
 abbrev pub stateUnder : ℕ → State → State
 stateUnder n s = cond (eqb n 3) (lostState s) s
 
-unfoldable pub takeAnswer : ℕ → State → List ℕ → Taken
-takeAnswer n s sf = cond (eqb n 0) (besideWith s sf (wrongBits sf) (blocksOf sf)) (refusedWith n (stateUnder n s))
+unfoldable pub takeAnswer : ℕ → ℕ → State → List ℕ → Taken
+takeAnswer radius n s sf = cond (eqb n 0) (besideWith s sf (wrongBits sf) (blocksOf radius sf)) (refusedWith n (stateUnder n s))
 
-pub record Took (s : State) (sf : List ℕ) (samples : List ℤ) (marks : List ℕ) (r : Taken) (samples' : List ℤ) (marks' : List ℕ) : Type 0 where
-  pub answer : r ≡ takeAnswer (takeNumber s sf samples marks) s sf
+pub record Took (radius : ℕ) (s : State) (sf : List ℕ) (samples : List ℤ) (marks : List ℕ) (r : Taken) (samples' : List ℤ) (marks' : List ℕ) : Type 0 where
+  pub answer : r ≡ takeAnswer radius (takeNumber radius s sf samples marks) s sf
   -- at the factors that the state brought, never at those of this superframe
-  pub sound : samples' ≡ cond (eqb (takeNumber s sf samples marks) 0) (samplesOf sf (s .next)) samples
-  pub marked : marks' ≡ cond (eqb (takeNumber s sf samples marks) 0) (marksOf sf (s .next)) marks
+  pub sound : samples' ≡ cond (eqb (takeNumber radius s sf samples marks) 0) (samplesOf radius sf (s .next)) samples
+  pub marked : marks' ≡ cond (eqb (takeNumber radius s sf samples marks) 0) (marksOf radius sf (s .next)) marks

@@ -1,7 +1,7 @@
-// A superframe is taken: its samples and marks go into two lent slices, and the state comes back with the answer.
+// A superframe is taken at a radius (document 02, P9): its samples and marks go into two lent slices, and the state comes back with the answer.
 ghost use mathlib.Core.Path.{_≡_};
 ghost use lib.ListN.{length};
-ghost use Rattle.superframe.specs.Take.{besideWith, refusedWith, Took};
+ghost use Rattle.superframe.specs.Take.{takable, besideWith, refusedWith, Took};
 use super::state;
 use super::state::State;
 use beside::Programmes;
@@ -9,7 +9,7 @@ use tape::Blocks;
 
 // The answer to a superframe. Refused, all but the number and the state is 0.
 pub struct Taken {
-    // 0; 1: a wrong length; 2: a state out of range; 3: a wrong sync
+    // 0; 1: a wrong length; 2: a state out of range, or another radius than 2 or 3; 3: a wrong sync
     pub number: u8,
     pub next: State,
     // how many bits of its 128 syncs are wrong
@@ -53,6 +53,16 @@ fn refused(number: u8, next: State) -> Taken
     }
 }
 
+// Whether a superframe can be taken so: at a radius of 2 or 3, with a state in range.
+fn can_take(radius: u8, state: State) -> bool
+    ensures { λ r. ⌜ r ≡ takable radius state ⌝ }
+{
+    if reading::is_radius(radius) {
+        return state.in_range();
+    }
+    false
+}
+
 // All that is answered beside the samples and marks, with wrong sync bits and readings already counted.
 fn answered(state: State, bytes: &[u8], wrong: u16, blocks: Blocks) -> Taken
     requires { ⌜ length (now bytes) ≡ 5120 ⌝ }
@@ -84,17 +94,17 @@ fn answered(state: State, bytes: &[u8], wrong: u16, blocks: Blocks) -> Taken
 
 impl State {
     // Refused, nothing is written.
-    pub fn take(self, bytes: &[u8], samples: &mut [i16], marks: &mut [u8]) -> Taken
-        ensures { λ r. ⌜ Took self (now (bytes .entry)) (now (samples .entry)) (now (marks .entry)) r (now (samples .exit)) (now (marks .exit)) ⌝ }
+    pub fn take(self, radius: u8, bytes: &[u8], samples: &mut [i16], marks: &mut [u8]) -> Taken
+        ensures { λ r. ⌜ Took radius self (now (bytes .entry)) (now (samples .entry)) (now (marks .entry)) r (now (samples .exit)) (now (marks .exit)) ⌝ }
     {
         if !sound::lengths_fit(bytes.len(), samples.len(), marks.len()) {
             return refused(1, self);
         }
-        if !self.in_range() {
+        if !can_take(radius, self) {
             return refused(2, self);
         }
         let factors = self.next;
-        let counted = sound::fill(bytes, &factors, samples, marks);
+        let counted = sound::fill(radius, bytes, &factors, samples, marks);
         if counted.number != 0 {
             let lost = self.lose();
             let next = lost.next;

@@ -1,5 +1,5 @@
 -- Blocks counted position by position, as the reader counts them, are the blocks counted in tape order.
---     tallied-sum       the eight counts of a mark add up to the count over the 512 blocks on tape
+--     tallied-sum       the eight counts of a kind add up to the count over the 512 blocks on tape
 -- Assumes nothing.
 use mathlib.Core.Path.{_≡_, refl, sym, ap, _∙_}
 use mathlib.Core.Bool.{Bool, true, false, cond}
@@ -9,10 +9,12 @@ use native.Mathlib.Nat.{add-zero, add-suc}
 use native.Mathlib.Omega.{arith}
 use lib.Dec.{eqb}
 use Rattle.bits.specs.Table.{tabulate}
-use Rattle.tape.specs.Tape.{tapeOf, readingIn, blockMark, howMany, tallied}
+use Rattle.reading.specs.Reading.{ordinary}
+use Rattle.tape.specs.Tape.{tapeOf, readingIn, howMany, talliedBy}
+use Rattle.tape.specs.Document.{kindOf}
 use Rattle.tape.proofs.Tape.{many-same}
 use Rattle.tally.specs.Totals.{sumOf}
-use Rattle.tally.specs.Reel.{markOnTape}
+use Rattle.tally.specs.Reel.{kindOnTape}
 
 many-split : (m n : ℕ) (P : ℕ → Bool) → howMany (m + n) P ≡ howMany m P + howMany n (λ i. P (m + i))
 unfolding howMany
@@ -69,6 +71,6 @@ positions-sum P =
     ∙ ap (λ (b : ℕ). howMany 256 P + b) (stream-sum P 1 (omega arith))
     ∙ sym (many-split 256 256 P)
 
-pub tallied-sum : (m : ℕ) (sf : List ℕ) → sumOf (tallied m sf) ≡ howMany 512 (λ t. eqb (markOnTape sf t) m)
-unfolding tallied blockMark readingIn markOnTape
-tallied-sum m sf = positions-sum (λ t. eqb (markOnTape sf t) m)
+pub tallied-sum : (k : ℕ) (sf : List ℕ) → sumOf (talliedBy (λ f p. kindOf (readingIn ordinary sf f p)) k) ≡ howMany 512 (λ t. eqb (kindOnTape sf t) k)
+unfolding readingIn kindOnTape
+tallied-sum k sf = positions-sum (λ t. eqb (kindOnTape sf t) k)

@@ -1,5 +1,6 @@
 -- The totals after a reel's superframes are what document 01 says of them.
 --     totals-counted    after at most 1,000,000 superframes, one step each: the six totals are those counted
+--     listed-ordinary   a superframe that was taken at either radius adds to the listing what its ordinary readings are
 --     blocks-counted    the blocks that are clean, mended and bad are 512 for each superframe that was not lost
 -- Assumes nothing.
 use mathlib.Core.Path.{_≡_, refl, sym, ap, _∙_}
@@ -8,14 +9,18 @@ use mathlib.Core.List.{List, [], _∷_}
 use Prim.Native.Nat.{ℕ, suc, _+_, _*_, _-_, _^_, _≤_}
 use native.Mathlib.Nat.{min-eq-left}
 use native.Mathlib.Omega.{arith}
-use borrow.Author.Tests.{eq-eqb}
+use borrow.Author.Tests.{eq-eqb, eqb-true}
+use lib.Dec.{eqb}
 use lib.ListN.{length}
 use Rattle.bits.proofs.Tests.{either-way}
 use Rattle.reel.specs.Header.{mostSuperframes}
-use Rattle.tape.specs.Tape.{synced, blocksOf, noBlocks, refusedCounts, countedWith, syncNumber, countsOf}
-use Rattle.tally.specs.Totals.{grown, sumOf, noTotals, withCounted, addedTo, stepOf, stepped, totalsFrom, totalsOf}
+use Rattle.reading.specs.Reading.{ordinary}
+use Rattle.tape.specs.Tape.{synced, noBlocks, refusedCounts, countedWith, syncNumber, countsOf}
+use Rattle.tally.specs.Totals.{grown, sumOf, noTotals, withCounted, addedTo, stepOf, listedWith, stepped, totalsFrom, totalsOf}
 use Rattle.tally.specs.Reel.{isLost, syncIn, blocksWith, total, counted, Superframes}
 use Rattle.tape.proofs.Wrong.{wrong-most}
+use Rattle.tape.proofs.Carried.{blocks-read}
+use Rattle.tape.specs.declared.blocks.Counted.{Counted}
 use Rattle.tally.specs.declared.Totals.{Totals}
 use Rattle.tally.proofs.Order.{tallied-sum}
 use Rattle.tally.proofs.Whole.{blocks-whole}
@@ -65,11 +70,11 @@ withOne : (t : Totals) (sf : List ℕ) → length sf ≡ 5120 →
       mended = grown (t .mended) (blocksWith 1 sf);
       bad = grown (t .bad) (blocksWith 2 sf);
     }
-unfolding addedTo withCounted countsOf syncNumber countedWith refusedCounts isLost syncIn blocksWith blocksOf noBlocks sumOf
+unfolding addedTo withCounted countsOf syncNumber countedWith refusedCounts isLost syncIn blocksWith noBlocks sumOf
 withOne t sf l =
     rw (eq-eqb (length sf) 5120 l)
     (either-way (synced sf)
-    (λ e. rw e
+    (λ e. rw (e, blocks-read ordinary sf)
     (same-totals _ _ _ _ _ _ _ _ _ _ _ _ refl refl refl
     (ap (grown (t .clean)) (tallied-sum 0 sf))
     (ap (grown (t .mended)) (tallied-sum 1 sf))
@@ -126,3 +131,10 @@ pub blocks-counted : (sfs : List (List ℕ)) →
 unfolding total
 blocks-counted [] = refl
 blocks-counted (sf ∷ sfs) = let h = blocks-counted sfs in let w = blocks-whole sf in omega (arith, h, w)
+
+pub listed-ordinary : (t : Totals) (radius : ℕ) (c : Counted) (sf : List ℕ) → c ≡ countedWith radius (syncNumber sf) sf → listedWith t radius c sf ≡ stepOf t sf
+unfolding listedWith stepOf countsOf
+listed-ordinary t radius c sf e =
+    either-way (eqb radius ordinary)
+    (λ u. rw u (ap (addedTo t) (e ∙ ap (λ (r : ℕ). countedWith r (syncNumber sf) sf) (eqb-true radius ordinary u))))
+    (λ u. rw u)

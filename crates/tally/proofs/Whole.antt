@@ -10,27 +10,28 @@ use lib.Dec.{eqb}
 use lib.ListN.{getD}
 use Rattle.bits.proofs.Tests.{either-way}
 use Rattle.block.specs.Read.{Said, clean, mended, bad}
-use Rattle.block.specs.Mark.{markOf}
+use Rattle.reading.specs.Reading.{ordinary}
 use Rattle.tape.specs.Tape.{synced, readings, howMany}
-use Rattle.tally.specs.Reel.{isLost, markOnTape, blocksWith}
+use Rattle.tape.specs.Document.{kindOf}
+use Rattle.tally.specs.Reel.{isLost, kindOnTape, blocksWith}
 
--- 1 where the mark is m
+-- 1 where the kind is k
 abbrev is : ℕ → ℕ → ℕ
-is mark m = cond (eqb mark m) 1 0
+is kind k = cond (eqb kind k) 1 0
 
-one-mark : (r : Said) → is (markOf r) 0 + (is (markOf r) 1 + is (markOf r) 2) ≡ 1
-unfolding markOf
-one-mark clean = refl
-one-mark (mended n) = refl
-one-mark bad = refl
+one-kind : (r : Said) → is (kindOf r) 0 + (is (kindOf r) 1 + is (kindOf r) 2) ≡ 1
+unfolding kindOf
+one-kind clean = refl
+one-kind (mended n) = refl
+one-kind bad = refl
 
--- of n blocks with a reading each, those of the three marks are all
-all-marked : (n : ℕ) (r : ℕ → Said) →
-    howMany n (λ f. eqb (markOf (r f)) 0) + (howMany n (λ f. eqb (markOf (r f)) 1) + howMany n (λ f. eqb (markOf (r f)) 2)) ≡ n
+-- of n blocks with a reading each, those of the three kinds are all
+all-kinds : (n : ℕ) (r : ℕ → Said) →
+    howMany n (λ f. eqb (kindOf (r f)) 0) + (howMany n (λ f. eqb (kindOf (r f)) 1) + howMany n (λ f. eqb (kindOf (r f)) 2)) ≡ n
 unfolding howMany
-all-marked zero r = refl
-all-marked (suc n) r = let h = all-marked n r in let o = one-mark (r n) in omega (arith, h, o)
+all-kinds zero r = refl
+all-kinds (suc n) r = let h = all-kinds n r in let o = one-kind (r n) in omega (arith, h, o)
 
 pub blocks-whole : (sf : List ℕ) → 512 * isLost sf + (blocksWith 0 sf + (blocksWith 1 sf + blocksWith 2 sf)) ≡ 512
-unfolding isLost blocksWith markOnTape
-blocks-whole sf = let w = all-marked 512 (λ t. getD (readings sf) t bad) in either-way (synced sf) (λ e. rw e (omega (arith, w))) (λ e. rw e refl)
+unfolding isLost blocksWith kindOnTape
+blocks-whole sf = let w = all-kinds 512 (λ t. getD (readings ordinary sf) t bad) in either-way (synced sf) (λ e. rw e (omega (arith, w))) (λ e. rw e refl)

@@ -1,8 +1,8 @@
 -- What the totals of a listing are, in document 01's words: "superframes counts the whole ones read, lost ones among them".
 --     isLost sf             1 for a superframe with a wrong sync, else 0
 --     syncIn sf             the wrong bits of its 128 syncs, added; none of a lost one, not even those of its good frames
---     markOnTape sf t       the mark of block t of its 512, in tape order
---     blocksWith m sf       how many of its 512 blocks have mark m (0 clean, 1 mended, 2 bad); none of a lost one
+--     kindOnTape sf t       what block t of its 512, in tape order, is by the ordinary reading: 0 clean, 1 mended, 2 bad
+--     blocksWith k sf       how many of its 512 blocks are of kind k; none of a lost one
 --     total f sfs           the sum of a number over some superframes
 --     counted sfs           all six totals of some superframes
 --     Superframes sfs       each is a whole superframe, by its length
@@ -12,9 +12,10 @@ use mathlib.Core.Bool.{cond}
 use mathlib.Core.List.{List, [], _∷_}
 use lib.Dec.{eqb}
 use lib.ListN.{length, getD}
+use Rattle.reading.specs.Reading.{ordinary}
 use Rattle.block.specs.Read.{bad}
-use Rattle.block.specs.Mark.{markOf}
 use Rattle.tape.specs.Tape.{synced, wrongBits, readings, howMany}
+use Rattle.tape.specs.Document.{kindOf}
 use Rattle.tally.specs.declared.Totals.{Totals}
 
 unfoldable pub isLost : List ℕ → ℕ
@@ -23,11 +24,11 @@ isLost sf = cond (synced sf) 0 1
 unfoldable pub syncIn : List ℕ → ℕ
 syncIn sf = cond (synced sf) (wrongBits sf) 0
 
-unfoldable pub markOnTape : List ℕ → ℕ → ℕ
-markOnTape sf t = markOf (getD (readings sf) t bad)
+unfoldable pub kindOnTape : List ℕ → ℕ → ℕ
+kindOnTape sf t = kindOf (getD (readings ordinary sf) t bad)
 
 unfoldable pub blocksWith : ℕ → List ℕ → ℕ
-blocksWith m sf = cond (synced sf) (howMany 512 (λ t. eqb (markOnTape sf t) m)) 0
+blocksWith k sf = cond (synced sf) (howMany 512 (λ t. eqb (kindOnTape sf t) k)) 0
 
 unfoldable pub total : (List ℕ → ℕ) → List (List ℕ) → ℕ
 total f [] = 0

@@ -8,11 +8,13 @@
 --     addedTo t c           what is answered: 0 and the totals with it, or the number of what is none and the totals as they were
 --     stepOf t sf           the same for a superframe by its bytes
 --     stepped t sf          the totals after it
+--     listedWith t radius c sf      the same for a superframe that was taken at a radius, with c counted there: that, at the ordinary one, and else by its bytes
 --     totalsOf sfs          after all of some superframes, in order
 use Prim.Native.Nat.{ℕ, _+_, _-_, _^_, min}
 use mathlib.Core.Bool.{Bool, true, cond}
 use mathlib.Core.List.{List, [], _∷_}
 use lib.Dec.{eqb}
+use Rattle.reading.specs.Reading.{ordinary}
 use Rattle.tape.specs.Tape.{countsOf}
 use Rattle.tape.specs.declared.blocks.Counted.{Counted}
 use Rattle.tally.specs.declared.Step.{Step}
@@ -48,6 +50,9 @@ addedTo t c = cond (isCounted (c .number)) (record { number = 0; next = withCoun
 
 unfoldable pub stepOf : Totals → List ℕ → Step
 stepOf t sf = addedTo t (countsOf sf)
+
+unfoldable pub listedWith : Totals → ℕ → Counted → List ℕ → Step
+listedWith t radius c sf = cond (eqb radius ordinary) (addedTo t c) (stepOf t sf)
 
 abbrev pub stepped : Totals → List ℕ → Totals
 stepped t sf = stepOf t sf .next

@@ -1,6 +1,6 @@
 // The totals of a listing (docs/FORMAT.md, "Reel file and listing"), which grow by one superframe at a time.
 ghost use mathlib.Core.Path.{_≡_};
-ghost use Rattle.tally.specs.Totals.{grown, isCounted, sumOf, noTotals, addedTo, stepOf};
+ghost use Rattle.tally.specs.Totals.{grown, isCounted, sumOf, noTotals, addedTo, stepOf, listedWith};
 use tape::Counted;
 
 pub struct Totals {
@@ -91,6 +91,16 @@ impl Totals {
             bad: grow(self.bad, sum(bad)),
         };
         Step { number: 0, next }
+    }
+
+    // One superframe more that was taken at a radius, by what was counted in it there and by its bytes: the listing counts the ordinary readings.
+    pub fn list(self, radius: u8, counted: Counted, superframe: &[u8]) -> Step
+        ensures { λ r. ⌜ r ≡ listedWith self radius counted (now (superframe .entry)) ⌝ }
+    {
+        if radius == reading::ORDINARY {
+            return self.add(counted);
+        }
+        self.step(superframe)
     }
 
     // One superframe more. What is none, by its length, is refused with 1.

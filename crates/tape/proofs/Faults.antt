@@ -18,6 +18,7 @@ use Rattle.bits.proofs.Table.{length-tab, getD-tab}
 use Rattle.bits.proofs.Tests.{either-way}
 use Rattle.bits.proofs.Every.{every-missed}
 use Rattle.bits.proofs.Order.{Tells, tells-nothing, tells-length, in-order}
+use Rattle.reading.specs.Reading.{ordinary}
 use Rattle.frame.specs.Read.{mostWrong}
 use Rattle.tape.specs.Tape.{wrongAt, synced, noBlocks, refusedCounts, countedWith, syncNumber, countsOf}
 use Rattle.tape.specs.Faults.{WrongSync, frame}
@@ -41,13 +42,13 @@ module _ (sf : List ℕ) where
   unfolding syncNumber
   sync-order = in-order (eqb (length sf) 5120) true (synced sf) (tells-length (length sf) 5120) tells-nothing tells-sync
 
-  counted-number : (n : ℕ) → countedWith n sf .number ≡ n
+  counted-number : (radius n : ℕ) → countedWith radius n sf .number ≡ n
   unfolding countedWith refusedCounts
-  counted-number n = either-way (eqb n 0) (λ t. rw t (sym (borrow.Author.Tests.eqb-true n 0 t))) (λ t. rw t)
+  counted-number radius n = either-way (eqb n 0) (λ t. rw t (sym (borrow.Author.Tests.eqb-true n 0 t))) (λ t. rw t)
 
   pub counts-order : Ordered (length sf ≢ 5120) ⊥ (WrongSync sf) (countsOf sf .number)
   unfolding countsOf
-  counts-order = subst (Ordered (length sf ≢ 5120) ⊥ (WrongSync sf)) (sym (counted-number (syncNumber sf))) sync-order
+  counts-order = subst (Ordered (length sf ≢ 5120) ⊥ (WrongSync sf)) (sym (counted-number ordinary (syncNumber sf))) sync-order
 
   pub refused-empty : (countsOf sf .number ≢ 0) → (countsOf sf .wrong ≡ 0) × (countsOf sf .blocks ≡ noBlocks)
   unfolding countsOf countedWith refusedCounts

@@ -1,11 +1,13 @@
-// The 512 blocks of a superframe, read by the tables (document 02, P3) and counted, from its bytes alone.
+// The 512 blocks of a superframe, read at a radius by the tables (document 02, P3 and P9) and counted, from its bytes alone.
 ghost use mathlib.Core.Path.{_≡_};
 ghost use Prim.Native.Nat.{_<_};
 ghost use Rattle.bits.specs.Table.{tabulate};
 ghost use lib.Dec.{eqb};
 ghost use lib.ListN.{length};
+ghost use Rattle.reading.specs.Reading.{ordinary};
+ghost use Rattle.block.specs.Mark.{countedAs};
 ghost use Rattle.words.specs.Words.{toldBy, Tables};
-ghost use Rattle.tape.specs.Tape.{blockIn, blockMark, quadOf, refusedQuad, quadBy, howMany, talliedBy, inEights, markAmong, gatheredFrom, refusedCounts, countsOf};
+ghost use Rattle.tape.specs.Tape.{blockIn, blockMark, quadOf, refusedQuad, quadBy, howMany, talliedBy, inEights, markAmong, countedMarks, gatheredFrom, refusedCounts, countsOf};
 use super::frames;
 
 // For each of the eight block positions, how many of its 64 blocks read so.
@@ -47,14 +49,23 @@ fn quad_at(
     pairs: &[u32; 1953],
     places: &[u16; 1953],
     starts: &[u16; 257],
+    radius: u8,
     sf: &[u8],
     f: u8,
     p: u8,
 ) -> Quad
     requires { ⌜ (length (now sf) ≡ 5120) × (f < 64) × (p < 8) ⌝ }
-    ensures { λ r. ⌜ r ≡ quadOf (toldBy (now (table .entry)) (now (singles .entry)) (now (pairs .entry)) (now (places .entry)) (now (starts .entry)) (blockIn (now (sf .entry)) f p)) ⌝ }
+    ensures { λ r. ⌜ r ≡ quadOf (toldBy (now (table .entry)) (now (singles .entry)) (now (pairs .entry)) (now (places .entry)) (now (starts .entry)) radius (blockIn (now (sf .entry)) f p)) ⌝ }
 {
-    let told = words::read_by(table, singles, pairs, places, starts, block_at(sf, f, p));
+    let told = words::read_by(
+        table,
+        singles,
+        pairs,
+        places,
+        starts,
+        radius,
+        block_at(sf, f, p),
+    );
     let codes = told.codes;
     Quad {
         number: 0,
@@ -73,21 +84,25 @@ fn no_quad(number: u8) -> Quad
     }
 }
 
-// The same for any bytes and any place.
+// The same for any bytes, any radius and any place.
 pub fn read_at(
     table: &[u32; 256],
     singles: &[u32; 63],
     pairs: &[u32; 1953],
     places: &[u16; 1953],
     starts: &[u16; 257],
+    radius: u8,
     sf: &[u8],
     f: u8,
     p: u8,
 ) -> Quad
-    ensures { λ r. ⌜ r ≡ quadBy (now (table .entry)) (now (singles .entry)) (now (pairs .entry)) (now (places .entry)) (now (starts .entry)) (now (sf .entry)) f p ⌝ }
+    ensures { λ r. ⌜ r ≡ quadBy (now (table .entry)) (now (singles .entry)) (now (pairs .entry)) (now (places .entry)) (now (starts .entry)) radius (now (sf .entry)) f p ⌝ }
 {
     if sf.len() != 5120 {
         return no_quad(1);
+    }
+    if !reading::is_radius(radius) {
+        return no_quad(2);
     }
     if 64 <= f {
         return no_quad(2);
@@ -95,10 +110,10 @@ pub fn read_at(
     if 8 <= p {
         return no_quad(2);
     }
-    quad_at(table, singles, pairs, places, starts, sf, f, p)
+    quad_at(table, singles, pairs, places, starts, radius, sf, f, p)
 }
 
-// The marks of all blocks, frame number by frame number.
+// The marks of all blocks at the ordinary radius, frame number by frame number.
 fn marks_by(
     table: &[u32; 256],
     singles: &[u32; 63],
@@ -109,7 +124,7 @@ fn marks_by(
 ) -> [u8; 512]
     requires { ⌜ length (now sf) ≡ 5120 ⌝ }
     requires { ⌜ Tables (now table) (now singles) (now pairs) (now places) (now starts) ⌝ }
-    ensures { λ r. ⌜ r ≡ tabulate 512 (inEights (blockMark (now (sf .entry)))) ⌝ }
+    ensures { λ r. ⌜ r ≡ tabulate 512 (inEights (blockMark ordinary (now (sf .entry)))) ⌝ }
 {
     let mut out = [0u8; 512];
     let mut n: usize = 0;
@@ -120,6 +135,7 @@ fn marks_by(
             pairs,
             places,
             starts,
+            reading::ORDINARY,
             sf,
             (n / 8) as u8,
             (n % 8) as u8,
@@ -132,7 +148,7 @@ fn marks_by(
 
 fn all_marks(sf: &[u8]) -> [u8; 512]
     requires { ⌜ length (now sf) ≡ 5120 ⌝ }
-    ensures { λ r. ⌜ r ≡ tabulate 512 (inEights (blockMark (now (sf .entry)))) ⌝ }
+    ensures { λ r. ⌜ r ≡ tabulate 512 (inEights (blockMark ordinary (now (sf .entry)))) ⌝ }
 {
     let table = code::remainders();
     let singles = reading::columns();
@@ -142,7 +158,26 @@ fn all_marks(sf: &[u8]) -> [u8; 512]
     marks_by(&table, &singles, &pairs, &places, &starts, sf)
 }
 
-// How many blocks of a position have a mark.
+// What a block with a mark counts as: 0 clean, 1 mended, 2 bad. Mark 4 counts as mended.
+fn kind_of(mark: u8) -> u8
+    ensures { λ r. ⌜ r ≡ countedAs mark ⌝ }
+{
+    if mark == 4 { 1 } else { mark }
+}
+
+fn kinds_of(marks: [u8; 512]) -> [u8; 512]
+    ensures { λ r. ⌜ r ≡ countedMarks marks ⌝ }
+{
+    let mut out = [0u8; 512];
+    let mut n: usize = 0;
+    while n < 512 {
+        out[n] = kind_of(marks[n]);
+        n += 1;
+    }
+    out
+}
+
+// How many blocks of a position count as one kind.
 fn tally(marks: [u8; 512], mark: u8, p: usize) -> u8
     requires { ⌜ p < 8 ⌝ }
     ensures { λ r. ⌜ r ≡ howMany 64 (λ f. eqb (markAmong marks f p) mark) ⌝ }
@@ -174,13 +209,14 @@ fn tallies(marks: [u8; 512], mark: u8) -> [u8; 8]
 pub fn gathered(wrong: u16, marks: [u8; 512]) -> Counted
     ensures { λ r. ⌜ r ≡ gatheredFrom wrong marks ⌝ }
 {
-    if !bits::all_below(&marks, 3) {
+    let kinds = kinds_of(marks);
+    if !bits::all_below(&kinds, 3) {
         return refused(2);
     }
     let blocks = Blocks {
-        clean: tallies(marks, 0),
-        mended: tallies(marks, 1),
-        bad: tallies(marks, 2),
+        clean: tallies(kinds, 0),
+        mended: tallies(kinds, 1),
+        bad: tallies(kinds, 2),
     };
     Counted {
         number: 0,
@@ -212,7 +248,7 @@ pub fn refused(number: u8) -> Counted
     }
 }
 
-// The readings of a superframe, counted without a state.
+// The ordinary readings of a superframe, counted without a state.
 pub fn counts(bytes: &[u8]) -> Counted
     ensures { λ r. ⌜ r ≡ countsOf (now (bytes .entry)) ⌝ }
 {

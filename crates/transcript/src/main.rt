@@ -1,5 +1,7 @@
 // Writes every answer of the reader, superframe by superframe, for the reel on standard input, so that a program that shares nothing with this
 // one can be compared with it, and says how that ended. docs/TRANSCRIPT.md has the form of the lines.
+//     transcript DESCRIPTOR RADIUS
+// The radius is 2 or 3, and without it 2.
 use ending::Ended;
 use reel::HeaderRead;
 use superframe::State;
@@ -10,10 +12,10 @@ struct Written {
 }
 
 // Superframe k, and the state that the next one is taken with. Its lines have at most 18,616 characters (`superframe-whole` in transcript_text).
-fn write_superframe(k: u32, state: State, bytes: &[u8; 5120]) -> Written {
+fn write_superframe(k: u32, radius: u8, state: State, bytes: &[u8; 5120]) -> Written {
     let mut samples = [0i16; 2048];
     let mut marks = [0u8; 2048];
-    let taken = state.take(bytes, &mut samples, &mut marks);
+    let taken = state.take(radius, bytes, &mut samples, &mut marks);
     let next = taken.next;
     let mut out = [0u8; 20480];
     let placed = transcript_text::put_superframe(&mut out, 0, k, taken, &samples, &marks);
@@ -45,7 +47,7 @@ fn stopped(error: u32) -> Ended {
 }
 
 // The superframes that come, at most as many as the header promises.
-fn write_superframes(count: u32) -> Ended {
+fn write_superframes(count: u32, radius: u8) -> Ended {
     let mut state = State::fresh();
     let mut k: u32 = 0;
     while k < count {
@@ -56,7 +58,7 @@ fn write_superframes(count: u32) -> Ended {
             return stopped(filled.error);
         }
         k += 1;
-        let written = write_superframe(k, state, &bytes);
+        let written = write_superframe(k, radius, state, &bytes);
         let error = written.error;
         if error != 0 {
             wipe(k);
@@ -87,7 +89,7 @@ fn finish(ended: Ended) -> Ended {
 }
 
 // With a count of 0 nothing more is read.
-fn write_reel(count: u32, offset: u32) -> Ended {
+fn write_reel(count: u32, offset: u32, radius: u8) -> Ended {
     if count == 0 {
         return finish(Ended::Whole);
     }
@@ -95,10 +97,14 @@ fn write_reel(count: u32, offset: u32) -> Ended {
     if error != 0 {
         return Ended::NotRead(error);
     }
-    finish(write_superframes(count))
+    finish(write_superframes(count, radius))
 }
 
 fn write() -> Ended {
+    let radius = input::radius_at(2);
+    if radius == 0 {
+        return Ended::NoRadius;
+    }
     let start = input::header();
     let error = start.error;
     if error != 0 {
@@ -107,7 +113,7 @@ fn write() -> Ended {
     let fault = start.fault;
     let header = start.header;
     match header {
-        HeaderRead::Reel { count, offset } => write_reel(count, offset),
+        HeaderRead::Reel { count, offset } => write_reel(count, offset, radius),
         HeaderRead::NoHeader => write_end(b"refused 8\n", fault),
     }
 }

@@ -6,6 +6,6 @@ use Rattle.bits.proofs.Unique.{same}
 use Rattle.words.specs.Words.{toldBy}
 use Rattle.words.specs.declared.Told.{Told}
 
-pub read-by-unique : (r r′ : Told) (table singles pairs places starts bits : List ℕ)
-    → r ≡ toldBy table singles pairs places starts bits → r′ ≡ toldBy table singles pairs places starts bits → r ≡ r′
-read-by-unique r r′ table singles pairs places starts bits = same
+pub read-by-unique : (r r′ : Told) (table singles pairs places starts : List ℕ) (radius : ℕ) (bits : List ℕ)
+    → r ≡ toldBy table singles pairs places starts radius bits → r′ ≡ toldBy table singles pairs places starts radius bits → r ≡ r′
+read-by-unique r r′ table singles pairs places starts radius bits = same

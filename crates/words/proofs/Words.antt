@@ -5,7 +5,7 @@
 --     word-small, word-digits    the word has 63 digits, which are the protected bits
 --     turned-digits         turning a digit of the word is turning the bit
 --     code-there            a code from the word and the unprotected bits is the block's
---     told-read             THE THEOREM, for any 77 bits: what `read_by` promises of any tables is, with the true ones, the mark of the block's reading and
+--     told-read             THE THEOREM, for any 77 bits and a radius that may be chosen: what `read_by` promises of any tables is, with the true ones, the mark of the block's reading and
 --                           the codes of the block as handed on
 -- Assumes nothing.
 use mathlib.Core.Path.{_≡_, refl, sym, ap, ap₂, _∙_, subst}
@@ -17,7 +17,7 @@ use native.Mathlib.Nat.{zero-add, mod-lt, mod-eq-of-lt, mod-self, div-self}
 use native.Mathlib.Omega.{arith}
 use borrow.Author.Tests.{lt-ltb}
 use lib.Bits.{bitXor, xor-lt}
-use lib.Dec.{eqb, ltb}
+use lib.Dec.{ltb}
 use lib.IntN.{ℤ}
 use lib.ListN.{length, getD, take, drop, set, length-drop, replicate-append-replicate}
 use lib.Pow.{pow-pos, pow-lt}
@@ -26,7 +26,6 @@ use Rattle.bits.specs.Table.{tabulate}
 use Rattle.bits.specs.Bits.{bitsOf, eightAt, byteAt, areBits}
 use Rattle.bits.specs.Digits.{value, digits, Below}
 use Rattle.bits.proofs.Table.{length-tab, getD-tab, tab-ext, tab-add}
-use Rattle.bits.proofs.Tests.{picked}
 use Rattle.bits.proofs.Bits.{bits-below, bit-below}
 use Rattle.bits.proofs.Digits.{below-take, length-digits, below-digits, digits-append, digits-cons, digits-low, digits-zero, digits-value, take-digits, drop-digits, value-append, value-digits, value-tab, value-tab-below}
 use Rattle.remainder.specs.Polynomial.{_⊕_, zeros}
@@ -35,38 +34,39 @@ use Rattle.remainder.proofs.Sum.{length-zeros}
 use Rattle.remainder.proofs.Division.{remainder-zeros}
 use Rattle.remainder.proofs.Register.{digits-xor}
 use Rattle.code.specs.Generators.{blockGenerator}
-use Rattle.reading.specs.Reading.{Reading, handed}
+use Rattle.reading.specs.Reading.{Reading, handed, isRadius, largestRadius}
 use Rattle.reading.specs.Search.{reading}
 use Rattle.reading.specs.Wrong.{wrongPlaces, answer, turn, readAs, Within, columnNumbers}
 use Rattle.reading.specs.declared.Places.{Places}
-use Rattle.reading.specs.declared.Places.the-variants.{Zero, One, Two, Nowhere}
+use Rattle.reading.specs.declared.Places.the-variants.{Zero, One, Two, Three, Nowhere}
 use Rattle.reading.proofs.Few.{at}
-use Rattle.reading.proofs.Answered.{turn-at, answered-within, answered-reading}
+use Rattle.reading.proofs.Answered.{turn-at, answer-there, answered-within, answered-reading}
+use Rattle.reading.proofs.Radius.{chosen-wide, chosen-small}
 use Rattle.sample.specs.Pattern.{signedOf, bitsCode}
 use Rattle.block.specs.Layout.{fourteen}
-use Rattle.block.specs.Read.{Said, said, ordinary, protected, handedOn}
+use Rattle.block.specs.Read.{Said, said, protected, handedOn}
 use Rattle.block_codes.specs.Codes.{codeAt, codesAt}
 use Rattle.code.proofs.Smallest.{block-size}
 use Rattle.eights.specs.Eights.{remaindersOf, wordBy}
 use Rattle.eights.proofs.Whole.{word-remainder, digits-front}
-use Rattle.lookup.specs.Search.{found, placesBy}
+use Rattle.lookup.specs.Search.{placesBy}
 use Rattle.lookup.proofs.Wrong.{places-wrong}
 use Rattle.pairs.specs.Pairs.{pairTable, placeTable, startTable}
 use Rattle.block.specs.Mark.{markOf}
-use Rattle.words.specs.Words.{wordOf, turnedAt, mendedBy, markBy, righted, lowerIn, codeIn, toldWith, toldBy, toldOf, Tables}
+use Rattle.words.specs.Words.{wordOf, turnedAt, turnedAll, mendedBy, markBy, righted, lowerIn, codeIn, toldWith, toldBy, toldOf, Tables}
 use Rattle.words.specs.declared.Righted.{Righted}
 use Rattle.words.specs.declared.Told.{Told}
 
-pub read-parts : (table singles pairs places starts bits : List ℕ) (word r : ℕ) (p : Places) (right : Righted) (codes : List ℤ)
-    → word ≡ wordOf bits → r ≡ wordBy table word → answer p ≡ placesBy singles pairs places starts r → right ≡ righted word (answer p)
+pub read-parts : (table singles pairs places starts : List ℕ) (radius : ℕ) (bits : List ℕ) (word r : ℕ) (p : Places) (right : Righted) (codes : List ℤ)
+    → word ≡ wordOf bits → r ≡ wordBy table word → answer p ≡ placesBy singles pairs places starts radius r → right ≡ righted word (answer p)
     → codes ≡ tabulate 4 (codeIn (right .word) bits)
-    → _≡_ {A = Told} (record { mark = right .mark; codes = codes }) (toldBy table singles pairs places starts bits)
+    → _≡_ {A = Told} (record { mark = right .mark; codes = codes }) (toldBy table singles pairs places starts radius bits)
 unfolding righted toldWith toldBy
-read-parts table singles pairs places starts bits word r p right codes e f g h i =
+read-parts table singles pairs places starts radius bits word r p right codes e f g h i =
     ap₂ (λ (m : ℕ) (cs : List ℤ). record { mark = m; codes = cs })
     (ap (λ (x : Righted). x .mark) h)
     (i ∙ ap (λ (w : ℕ). tabulate 4 (codeIn w bits)) (ap (λ (x : Righted). x .word) h ∙ ap (λ (w : ℕ). mendedBy w (answer p)) e))
-    ∙ ap (toldWith bits) (g ∙ ap (placesBy singles pairs places starts) (f ∙ ap (wordBy table) e))
+    ∙ ap (toldWith bits) (g ∙ ap (placesBy singles pairs places starts radius) (f ∙ ap (wordBy table) e))
 
 -- ---- the word, eight bits at a time
 module _ (bits : List ℕ) where
@@ -126,7 +126,7 @@ record Right (w : ℕ) (bits : List ℕ) (o : Option (List ℕ)) (p : Places) : 
   mark : markBy o ≡ markOf (said (readAs bits p))
 
 right : (w : ℕ) (bits : List ℕ) → w < 2 ^ 63 → digits 2 63 w ≡ bits → (p : Places) → Within p → Right w bits (answer p) p
-unfolding mendedBy markBy answer readAs handed said markOf Within
+unfolding turnedAll mendedBy markBy answer readAs handed said markOf Within
 right w bits s e Zero l = record { small = s; word = e; mark = refl }
 right w bits s e (One i) l = record { small = turned-small w i s l; word = turned-digits w i s l ∙ ap (λ (b : List ℕ). turn b i) e; mark = refl }
 right w bits s e (Two i j) l =
@@ -136,6 +136,19 @@ right w bits s e (Two i j) l =
       word =
           turned-digits (turnedAt w i) j (turned-small w i s first) (l .1)
           ∙ ap (λ (b : List ℕ). turn b j) (turned-digits w i s first ∙ ap (λ (b : List ℕ). turn b i) e);
+      mark = refl;
+    }
+right w bits s e (Three i j k) l =
+    let first : i < 63 = omega (arith, l .0, l .1, l .2) in
+    let second : j < 63 = omega (arith, l .1, l .2) in
+    let one : turnedAt w i < 2 ^ 63 = turned-small w i s first in
+    let two : turnedAt (turnedAt w i) j < 2 ^ 63 = turned-small (turnedAt w i) j one second in
+    record {
+      small = turned-small (turnedAt (turnedAt w i) j) k two (l .2);
+      word =
+          turned-digits (turnedAt (turnedAt w i) j) k two (l .2)
+          ∙ ap (λ (b : List ℕ). turn b k)
+          (turned-digits (turnedAt w i) j one second ∙ ap (λ (b : List ℕ). turn b j) (turned-digits w i s first ∙ ap (λ (b : List ℕ). turn b i) e));
       mark = refl;
     }
 right w bits s e Nowhere l = record { small = s; word = e; mark = refl }
@@ -177,21 +190,6 @@ module _ (w : ℕ) (bits : List ℕ) (size : length bits ≡ 77) (below : Below 
       ∙ value-append 2 (digits 2 11 (w / 2 ^ (52 - 11 * c))) lower
       ∙ ap₂ (λ (v n : ℕ). v * 2 ^ n + value 2 lower) (value-digits 2 11 (w / 2 ^ (52 - 11 * c)) (omega arith)) (length-tab 3 (λ k. getD bits (63 + 3 * c + k) 0 % 2))))
 
--- ---- the places found, as an answer of the code
-asPlaces : Option (List ℕ) → Places
-asPlaces none = Nowhere
-asPlaces (some []) = Zero
-asPlaces (some (i ∷ [])) = One i
-asPlaces (some (i ∷ j ∷ l)) = Two i j
-
-as-answer : (places : List ℕ) (s pair one : ℕ) → answer (asPlaces (found places s pair one)) ≡ found places s pair one
-unfolding found asPlaces answer
-as-answer places s pair one =
-    picked As (eqb s 0) _ _ refl (picked As (ltb pair 1953) _ _ refl (picked As (ltb one 63) _ _ refl refl))
-  where
-    As : Option (List ℕ) → Type 0
-    As o = answer (asPlaces o) ≡ o
-
 -- ---- the theorem
 module _ (bits : List ℕ) (size : length bits ≡ 77) (are : areBits bits ≡ true) where
   below : Below 2 bits
@@ -225,40 +223,46 @@ module _ (bits : List ℕ) (size : length bits ≡ 77) (are : areBits bits ≡ t
       ∙ ap (λ (l : List ℕ). value 2 (remainder blockGenerator l)) (digits-front 1 63 w word-small)
       ∙ ap (value 2) (remainder-zeros blockGenerator 1 (digits 2 63 w) ∙ ap (remainder blockGenerator) word-digits)
 
-  r : ℕ
+  abbrev r : ℕ
   r = wordBy (remaindersOf blockGenerator) (wordOf bits)
 
-  o : Option (List ℕ)
-  o = placesBy columnNumbers pairTable placeTable startTable r
+  module _ (radius : ℕ) (chosen : isRadius radius ≡ true) where
+    small : radius ≤ largestRadius
+    small = chosen-small radius chosen
 
-  p : Places
-  p = asPlaces o
+    o : Option (List ℕ)
+    o = placesBy columnNumbers pairTable placeTable startTable radius r
 
-  told : answer p ≡ o
-  unfolding p o placesBy
-  told = as-answer placeTable _ _ _
+    is : o ≡ wrongPlaces radius r
+    unfolding o
+    is = places-wrong radius (chosen-wide radius chosen) small r
 
-  wrong : answer p ≡ wrongPlaces 2 r
-  unfolding o
-  wrong = told ∙ places-wrong r
+    p : Places
+    p = answer-there radius small r .0
 
-  reads : reading 2 (protected bits) ≡ readAs (protected bits) p
-  unfolding r
-  reads = answered-reading (protected bits) r p front front-below word-leaves wrong
+    wrong : answer p ≡ wrongPlaces radius r
+    unfolding p
+    wrong = answer-there radius small r .1
 
-  made : Right (wordOf bits) (protected bits) o p
-  made = subst (λ (o : Option (List ℕ)). Right (wordOf bits) (protected bits) o p) told (right (wordOf bits) (protected bits) word-small word-digits p (answered-within r p wrong))
+    reads : reading radius (protected bits) ≡ readAs (protected bits) p
+    reads = answered-reading radius small (protected bits) r p front front-below word-leaves wrong
 
-  true-read : toldBy (remaindersOf blockGenerator) columnNumbers pairTable placeTable startTable bits ≡ toldOf bits
-  unfolding toldBy toldWith toldOf codesAt handedOn o r
-  true-read =
-      let word : ℕ = mendedBy (wordOf bits) o in
-      let hands : digits 2 63 word ++ drop 63 bits ≡ cond (areBits bits) (handed (protected bits) (reading 2 (protected bits)) ++ drop 63 bits) bits =
-      ap (λ (l : List ℕ). l ++ drop 63 bits) (made .word ∙ ap (handed (protected bits)) (sym reads))
-      ∙ sym (ap (λ (b : Bool). cond b (handed (protected bits) (reading 2 (protected bits)) ++ drop 63 bits) bits) are) in
-      ap₂ (λ (m : ℕ) (cs : List ℤ). record { mark = m; codes = cs })
-      (made .mark ∙ ap (λ (x : Reading). markOf (said x)) (sym reads))
-      (tab-ext 4 (codeIn word bits) (codeAt _) (λ c l. code-there word bits size below c l ∙ ap (λ (b : List ℕ). codeAt b c) hands))
+    made : Right (wordOf bits) (protected bits) o p
+    made =
+        subst (λ (o : Option (List ℕ)). Right (wordOf bits) (protected bits) o p) (wrong ∙ sym is)
+        (right (wordOf bits) (protected bits) word-small word-digits p (answered-within radius small r p wrong))
 
-  pub told-read : (table singles pairs places starts : List ℕ) → Tables table singles pairs places starts → toldBy table singles pairs places starts bits ≡ toldOf bits
-  told-read table singles pairs places starts t = rw (t .eights, t .ones, t .twos, t .beside, t .index) true-read
+    true-read : toldBy (remaindersOf blockGenerator) columnNumbers pairTable placeTable startTable radius bits ≡ toldOf radius bits
+    unfolding toldBy toldWith toldOf codesAt handedOn o
+    true-read =
+        let word : ℕ = mendedBy (wordOf bits) o in
+        let hands : digits 2 63 word ++ drop 63 bits ≡ cond (areBits bits) (handed (protected bits) (reading radius (protected bits)) ++ drop 63 bits) bits =
+        ap (λ (l : List ℕ). l ++ drop 63 bits) (made .word ∙ ap (handed (protected bits)) (sym reads))
+        ∙ sym (ap (λ (b : Bool). cond b (handed (protected bits) (reading radius (protected bits)) ++ drop 63 bits) bits) are) in
+        ap₂ (λ (m : ℕ) (cs : List ℤ). record { mark = m; codes = cs })
+        (made .mark ∙ ap (λ (x : Reading). markOf (said x)) (sym reads))
+        (tab-ext 4 (codeIn word bits) (codeAt _) (λ c l. code-there word bits size below c l ∙ ap (λ (b : List ℕ). codeAt b c) hands))
+
+    pub told-read : (table singles pairs places starts : List ℕ) → Tables table singles pairs places starts
+        → toldBy table singles pairs places starts radius bits ≡ toldOf radius bits
+    told-read table singles pairs places starts t = rw (t .eights, t .ones, t .twos, t .beside, t .index) true-read

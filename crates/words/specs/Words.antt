@@ -1,13 +1,14 @@
 -- A block read with its 63 protected bits as one number, by any tables. An entry that is neither 0 nor 1 counts as its lowest binary digit.
 --     wordOf bits           the number that the first 63 make
 --     turnedAt w i          the word with the digit of place i turned, where there is such a place
---     mendedBy w o, markBy o    the word with the places o turned; the mark: 0 for no place, 1 for some, 2 where none were found
+--     turnedAll w l         the same of each place of a list
+--     mendedBy w o, markBy o    the word with the places o turned; the mark: 0 for no place, 4 for three, 1 for others, 2 where none were found
 --     righted w o           both
 --     lowerIn bits c        the three unprotected bits of channel c as a number
 --     codeIn w bits c       the code of channel c: 11 digits of the word, and those three
 --     toldWith bits o       the mark and the four codes, with the places o turned
---     toldBy .. bits        the same with the places that are looked up for the word's remainder
---     toldOf bits           THE SAME BY DOCUMENT 01: the mark of the block's reading, and the codes of the block as handed on
+--     toldBy .. radius bits     the same with the places that are looked up for the word's remainder
+--     toldOf radius bits    THE SAME BY DOCUMENT 01: the mark of the block's reading at a radius, and the codes of the block as handed on
 --     Tables ..             the tables are the true ones
 use mathlib.Core.Path.{_≡_}
 use mathlib.Core.Bool.{cond}
@@ -15,14 +16,14 @@ use mathlib.Core.List.{List, [], _∷_}
 use mathlib.Core.Option.{Option, none, some}
 use Prim.Native.Nat.{ℕ, _+_, _-_, _*_, _/_, _%_, _^_}
 use lib.Bits.{bitXor}
-use lib.Dec.{ltb}
+use lib.Dec.{eqb, ltb}
 use lib.IntN.{ℤ}
-use lib.ListN.{getD}
+use lib.ListN.{length, getD}
 use Rattle.bits.specs.Table.{tabulate}
 use Rattle.bits.specs.Digits.{value}
 use Rattle.sample.specs.Pattern.{signedOf}
 use Rattle.reading.specs.Search.{reading}
-use Rattle.block.specs.Read.{said, ordinary, protected, handedOn}
+use Rattle.block.specs.Read.{said, protected, handedOn}
 use Rattle.block_codes.specs.Codes.{codesAt}
 use Rattle.reading.specs.Wrong.{columnNumbers}
 use Rattle.code.specs.Generators.{blockGenerator}
@@ -39,16 +40,18 @@ wordOf bits = value 2 (tabulate 63 (λ k. getD bits k 0 % 2))
 unfoldable pub turnedAt : ℕ → ℕ → ℕ
 turnedAt w i = cond (ltb i 63) (bitXor w (2 ^ (62 - i))) w
 
+unfoldable pub turnedAll : ℕ → List ℕ → ℕ
+turnedAll w [] = w
+turnedAll w (i ∷ l) = turnedAll (turnedAt w i) l
+
 unfoldable pub mendedBy : ℕ → Option (List ℕ) → ℕ
 mendedBy w none = w
-mendedBy w (some []) = w
-mendedBy w (some (i ∷ [])) = turnedAt w i
-mendedBy w (some (i ∷ j ∷ l)) = turnedAt (turnedAt w i) j
+mendedBy w (some l) = turnedAll w l
 
 unfoldable pub markBy : Option (List ℕ) → ℕ
 markBy none = 2
 markBy (some []) = 0
-markBy (some (i ∷ l)) = 1
+markBy (some (i ∷ l)) = cond (eqb (length (i ∷ l)) 3) 4 1
 
 unfoldable pub righted : ℕ → Option (List ℕ) → Righted
 righted w o = record { mark = markBy o; word = mendedBy w o }
@@ -62,11 +65,11 @@ codeIn w bits c = signedOf 8192 (w / 2 ^ (52 - 11 * c) % 2 ^ 11 * 8 + lowerIn bi
 unfoldable pub toldWith : List ℕ → Option (List ℕ) → Told
 toldWith bits o = record { mark = markBy o; codes = tabulate 4 (codeIn (mendedBy (wordOf bits) o) bits) }
 
-unfoldable pub toldBy : List ℕ → List ℕ → List ℕ → List ℕ → List ℕ → List ℕ → Told
-toldBy table singles pairs places starts bits = toldWith bits (placesBy singles pairs places starts (wordBy table (wordOf bits)))
+unfoldable pub toldBy : List ℕ → List ℕ → List ℕ → List ℕ → List ℕ → ℕ → List ℕ → Told
+toldBy table singles pairs places starts radius bits = toldWith bits (placesBy singles pairs places starts radius (wordBy table (wordOf bits)))
 
-unfoldable pub toldOf : List ℕ → Told
-toldOf bits = record { mark = markOf (said (reading ordinary (protected bits))); codes = codesAt (handedOn bits) }
+unfoldable pub toldOf : ℕ → List ℕ → Told
+toldOf radius bits = record { mark = markOf (said (reading radius (protected bits))); codes = codesAt (handedOn radius bits) }
 
 pub record Tables (table singles pairs places starts : List ℕ) : Type 0 where
   pub eights : table ≡ remaindersOf blockGenerator

@@ -8,7 +8,7 @@ ghost use Rattle.bits.specs.Table.{tabulate};
 ghost use Rattle.reading.specs.Wrong.{answer};
 ghost use Rattle.words.specs.Words.{wordOf, turnedAt, righted, lowerIn, codeIn, toldBy};
 
-// What is told of a block: its mark, 0 clean, 1 mended, 2 bad, and the codes of its four channels.
+// What is told of a block: its mark, 0 clean, 1 mended with one or two places turned, 4 with three, 2 bad, and the codes of its four channels.
 pub struct Told {
     pub mark: u8,
     pub codes: [i16; 4],
@@ -63,6 +63,10 @@ fn mended(word: u64, places: Places) -> Righted
             mark: 1,
             word: turned(turned(word, i), j),
         },
+        Places::Three(i, j, k) => Righted {
+            mark: 4,
+            word: turned(turned(turned(word, i), j), k),
+        },
         Places::Nowhere => Righted { mark: 2, word },
     }
 }
@@ -102,20 +106,21 @@ fn codes_in(word: u64, bits: [u8; 77]) -> [i16; 4]
     out
 }
 
-// An entry that is neither 0 nor 1 counts as its lowest binary digit.
+// An entry that is neither 0 nor 1 counts as its lowest binary digit. Three places are turned where the radius is 3 or more (document 02, P9).
 pub fn read_by(
     table: &[u32; 256],
     singles: &[u32; 63],
     pairs: &[u32; 1953],
     places: &[u16; 1953],
     starts: &[u16; 257],
+    radius: u8,
     bits: [u8; 77],
 ) -> Told
-    ensures { λ r. ⌜ r ≡ toldBy (now (table .entry)) (now (singles .entry)) (now (pairs .entry)) (now (places .entry)) (now (starts .entry)) bits ⌝ }
+    ensures { λ r. ⌜ r ≡ toldBy (now (table .entry)) (now (singles .entry)) (now (pairs .entry)) (now (places .entry)) (now (starts .entry)) radius bits ⌝ }
 {
     let word = word_of(bits);
     let remainder = eights::of_word(table, word);
-    let found = lookup::places_by(singles, pairs, places, starts, remainder);
+    let found = lookup::places_by(singles, pairs, places, starts, radius, remainder);
     let right = mended(word, found);
     let mark = right.mark;
     let codes = codes_in(right.word, bits);

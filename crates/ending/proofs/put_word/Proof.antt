@@ -59,6 +59,15 @@ slice-aggregate-put-all-6 c = search needs
 put-all-requires-6 : tie.Need-put-all-requires-6
 put-all-requires-6 c κs = search needs
 
+enum-told-7 : tie.Need-enum-told-7
+enum-told-7 c = search needs
+
+slice-aggregate-put-all-7 : tie.Need-slice-aggregate-put-all-7
+slice-aggregate-put-all-7 c = search needs
+
+put-all-requires-7 : tie.Need-put-all-requires-7
+put-all-requires-7 c κs = search needs
+
 enum-known-ended : tie.Need-enum-known-ended
 enum-known-ended c = search needs
 
@@ -124,14 +133,21 @@ same-length-7 c = search needs
 
 returns-7 : tie.Need-returns-7
 unfolding letters
-returns-7 c = told-word _ _ _ _ (c .before .before .before .before .before .before .ended .given .1) (c .before .before .put-error .ensures)
+returns-7 c = told-word _ _ _ _ (c .before .before .before .before .before .enum-told7 .given .1) (c .before .before .put-all7 .ensures)
 
 same-length-8 : tie.Need-same-length-8
 same-length-8 c = search needs
 
 returns-8 : tie.Need-returns-8
 unfolding letters
-returns-8 c = told-word _ _ _ _ (c .before .before .before .before .before .before .ended2 .given .1) (c .before .before .put-error2 .ensures)
+returns-8 c = told-word _ _ _ _ (c .before .before .before .before .before .before .ended .given .1) (c .before .before .put-error .ensures)
+
+same-length-9 : tie.Need-same-length-9
+same-length-9 c = search needs
+
+returns-9 : tie.Need-returns-9
+unfolding letters
+returns-9 c = told-word _ _ _ _ (c .before .before .before .before .before .before .ended2 .given .1) (c .before .before .put-error2 .ensures)
 
 pub put-word-spec : {M : Type 1} → statement M
 put-word-spec =
@@ -155,6 +171,9 @@ put-word-spec =
     enum-told-6
     slice-aggregate-put-all-6
     put-all-requires-6
+    enum-told-7
+    slice-aggregate-put-all-7
+    put-all-requires-7
     enum-known-ended
     slice-aggregate-put-error
     put-error-requires
@@ -176,4 +195,6 @@ put-word-spec =
     same-length-7
     returns-7
     same-length-8
-    returns-8)
+    returns-8
+    same-length-9
+    returns-9)

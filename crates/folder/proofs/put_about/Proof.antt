@@ -32,7 +32,7 @@ returns-2 c =
     let answered = tested .before .before in
     let given = answered .before .before .before .before .before .before .before in
     let start = given .args in
-    let text = aboutText (start .reel .now) (start .commit .now) in
+    let text = aboutText (start .reel .now) (start .radius) (start .commit .now) in
     entered-whole (start .out .now) _ text (start .to) _ (answered .before .before .put-lines .ensures) _ (answered .within .ensures) _
     (omega (arith, given .good .0)) (tested .if1 .left) (c .before .before .put-lines2 .ensures)
 

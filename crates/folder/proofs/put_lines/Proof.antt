@@ -21,8 +21,17 @@ slice-aggregate-put-all-2 c = search needs
 put-all-requires-3 : tie.Need-put-all-requires-3
 put-all-requires-3 c κs = search needs
 
+put-next-requires : tie.Need-put-next-requires
+put-next-requires c κs = search needs
+
+slice-aggregate-put-all-3 : tie.Need-slice-aggregate-put-all-3
+slice-aggregate-put-all-3 c = search needs
+
 put-all-requires-4 : tie.Need-put-all-requires-4
 put-all-requires-4 c κs = search needs
+
+put-all-requires-5 : tie.Need-put-all-requires-5
+put-all-requires-5 c κs = search needs
 
 put-requires : tie.Need-put-requires
 put-requires c κs = search needs
@@ -34,12 +43,16 @@ returns : tie.Need-returns
 unfolding aboutText letters
 returns c =
     let id = c .before .before .before .before .before .before in
-    let second = id .before .before .before .before in
+    let third = id .before .before .before .before in
+    let number = third .before .before .before .before .before in
+    let second = number .before .before .before .before in
     let name = second .before .before .before .before .before in
     let first = name .before .before .before .before in
     put-then _ _ _ _ _ (first .put-all .ensures)
     (put-then _ _ _ _ _ (name .put-all2 .ensures)
-    (put-then _ _ _ _ _ (second .put-all3 .ensures) (put-then _ _ _ _ _ (id .put-all4 .ensures) (c .before .before .put .ensures))))
+    (put-then _ _ _ _ _ (second .put-all3 .ensures)
+    (put-then _ _ _ _ _ (number .put-next .ensures)
+    (put-then _ _ _ _ _ (third .put-all4 .ensures) (put-then _ _ _ _ _ (id .put-all5 .ensures) (c .before .before .put .ensures))))))
 
 pub put-lines-spec : {M : Type 1} → statement M
 put-lines-spec =
@@ -50,7 +63,10 @@ put-lines-spec =
     put-all-requires-2
     slice-aggregate-put-all-2
     put-all-requires-3
+    put-next-requires
+    slice-aggregate-put-all-3
     put-all-requires-4
+    put-all-requires-5
     put-requires
     same-length
     returns)

@@ -5,10 +5,10 @@ use Rattle.hand_on.proofs.hand_superframes.Statement.{statement}
 use Rattle.hand_on.proofs.hand_superframes.Tie as tie
 
 abbrev Inv-loop : tie.InvT-loop
-Inv-loop fds count going₀ done₀ error₀ fault₀ going done error fault = done ≤ count
+Inv-loop fds count radius going₀ done₀ error₀ fault₀ going done error fault = done ≤ count
 
 abbrev μ-loop : tie.MeasureT-loop
-μ-loop fds count going₀ done₀ error₀ fault₀ going done error fault = count - done
+μ-loop fds count radius going₀ done₀ error₀ fault₀ going done error fault = count - done
 
 none-requires : tie.Need-none-requires Inv-loop μ-loop
 none-requires c κs = search needs

@@ -5,7 +5,7 @@ use Rattle.outside.proofs.outside_take.Statement.{statement}
 use Rattle.outside.proofs.outside_take.Tie as tie
 
 returns : tie.Need-returns
-returns c = other-length _ _ _ _ (c .if1 .taken)
+returns c = other-length _ _ _ _ _ (c .if1 .taken)
 
 state-from-requires : tie.Need-state-from-requires
 state-from-requires c κs = search needs
@@ -25,7 +25,7 @@ same-length-3 c = search needs
 returns-2 : tie.Need-returns-2
 returns-2 c =
     let taken = c .before .before .before .before in
-    refused-one _ _ _ _ (taken .before .before .before .before .before .if1 .left) _ (taken .before .before .before .state-from .ensures) _ _ _ (taken .take .ensures) (c .if2 .taken)
+    refused-one _ _ _ _ _ (taken .before .before .before .before .before .if1 .left) _ (taken .before .before .before .state-from .ensures) _ _ _ (taken .take .ensures) (c .if2 .taken)
 
 same-length-4 : tie.Need-same-length-4
 same-length-4 c = search needs
@@ -39,7 +39,7 @@ same-length-6 c = search needs
 returns-3 : tie.Need-returns-3
 returns-3 c =
     let taken = c .before .before .before .before .before in
-    refused-two _ _ _ _ (taken .before .before .before .before .before .if1 .left) _ (taken .before .before .before .state-from .ensures) _ _ _ (taken .take .ensures) (c .if3 .taken)
+    refused-two _ _ _ _ _ (taken .before .before .before .before .before .if1 .left) _ (taken .before .before .before .state-from .ensures) _ _ _ (taken .take .ensures) (c .if3 .taken)
 
 put-requires : tie.Need-put-requires
 put-requires c κs = search needs
@@ -57,7 +57,7 @@ returns-4 : tie.Need-returns-4
 returns-4 c =
     let asked = c .before .before .before .before .before .before .before .before in
     let taken = asked .before .before .before .before .before in
-    taken-by _ _ _ _ (taken .before .before .before .before .before .if1 .left) _ (taken .before .before .before .state-from .ensures) _ _ _ (taken .take .ensures) (asked .before .if2 .left) (asked .if3 .left) _ (c .before .before .put .ensures)
+    taken-by _ _ _ _ _ (taken .before .before .before .before .before .if1 .left) _ (taken .before .before .before .state-from .ensures) _ _ _ (taken .take .ensures) (asked .before .if2 .left) (asked .if3 .left) _ (c .before .before .put .ensures)
 
 pub outside-take-spec : {M : Type 1} → statement M
 outside-take-spec =

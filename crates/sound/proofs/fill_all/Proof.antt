@@ -30,14 +30,17 @@ fill-by-requires c κs =
       (
         pre .1 .0,
         (
-          pre .1 .1,
-          record {
-            eights = table .remainders .ensures;
-            ones = singles .columns .ensures;
-            twos = pairs .pairs .ensures;
-            beside = places .places .ensures;
-            index = starts .starts .ensures;
-          },
+          pre .1 .1 .0,
+          (
+            record {
+              eights = table .remainders .ensures;
+              ones = singles .columns .ensures;
+              twos = pairs .pairs .ensures;
+              beside = places .places .ensures;
+              index = starts .starts .ensures;
+            },
+            pre .1 .1 .1,
+          ),
         ),
       ),
     )

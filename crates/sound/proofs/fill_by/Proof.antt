@@ -14,15 +14,15 @@ use Rattle.sound.proofs.fill_by.Statement.{statement}
 use Rattle.sound.proofs.fill_by.Tie as tie
 
 abbrev Inv-loop : tie.InvT-loop
-Inv-loop table singles pairs places starts sf factors samples₀ marks₀ out₀ n₀ samples marks out n =
+Inv-loop table singles pairs places starts radius sf factors samples₀ marks₀ out₀ n₀ samples marks out n =
     (n ≤ 512)
-    × (samples ≡ filled (inRows (sampleAt sf factors)) (4 * n) samples₀)
-    × (marks ≡ filled (inRows (markAt sf factors)) (4 * n) marks₀)
+    × (samples ≡ filled (inRows (sampleAt radius sf factors)) (4 * n) samples₀)
+    × (marks ≡ filled (inRows (markAt radius sf factors)) (4 * n) marks₀)
     × (length out ≡ 512)
-    × (take n out ≡ tabulate n (inEights (blockMark sf)))
+    × (take n out ≡ tabulate n (inEights (blockMark radius sf)))
 
 abbrev μ-loop : tie.MeasureT-loop
-μ-loop table singles pairs places starts sf factors samples₀ marks₀ out₀ n₀ samples marks out n = 512 - n
+μ-loop table singles pairs places starts radius sf factors samples₀ marks₀ out₀ n₀ samples marks out n = 512 - n
 
 -- the two slices are as long at the loop's head as they were
 module _ (c : tie.At-loop Inv-loop μ-loop) where
@@ -39,7 +39,7 @@ module _ (c : tie.At-loop Inv-loop μ-loop) where
       ap length (c .loop .inv .2) ∙ length-filled _ (4 * c .loop .n) (s .args .marks .now) (omega arith) ∙ n
 
 loop-holds : tie.Need-loop-holds Inv-loop μ-loop
-loop-holds c = (search needs, filled-zero _ _, filled-zero _ _, search needs, tab-none (inEights (blockMark (c .before .before .args .sf .now))) [])
+loop-holds c = (search needs, filled-zero _ _, filled-zero _ _, search needs, tab-none (inEights (blockMark (c .before .before .args .radius) (c .before .before .args .sf .now))) [])
 
 mul-a : tie.Need-mul-a Inv-loop μ-loop
 mul-a c = search needs
@@ -92,10 +92,10 @@ loop-again c =
     let n : length (a .samples .now) ≡ 2048 = s .pre .1 .0 in
     let n' : length (a .marks .now) ≡ 2048 = s .pre .1 .1 .0 in (
       search needs,
-      part-back (inRows (sampleAt (a .sf .now) (a .factors .now))) (h .loop .n) (a .samples .now) _ _ (omega arith) (h .loop .inv .1) (d .four .ensures .1 .0),
-      part-back (inRows (markAt (a .sf .now) (a .factors .now))) (h .loop .n) (a .marks .now) _ _ (omega arith) (h .loop .inv .2) (d .four .ensures .1 .1),
+      part-back (inRows (sampleAt (a .radius) (a .sf .now) (a .factors .now))) (h .loop .n) (a .samples .now) _ _ (omega arith) (h .loop .inv .1) (d .four .ensures .1 .0),
+      part-back (inRows (markAt (a .radius) (a .sf .now) (a .factors .now))) (h .loop .n) (a .marks .now) _ _ (omega arith) (h .loop .inv .2) (d .four .ensures .1 .1),
       search needs,
-      tab-more (inEights (blockMark (a .sf .now))) (h .loop .out) (h .loop .n) _ (omega arith) (h .loop .inv .4) (d .four .ensures .0),
+      tab-more (inEights (blockMark (a .radius) (a .sf .now))) (h .loop .out) (h .loop .n) _ (omega arith) (h .loop .inv .4) (d .four .ensures .0),
     )
 
 same-length : tie.Need-same-length Inv-loop μ-loop
@@ -111,7 +111,7 @@ returns c =
     let s = h .before .before .before in
     let a = s .args in
     let e : 4 * h .loop .n ≡ 2048 = omega arith in (
-      tab-done (inEights (blockMark (a .sf .now))) (h .loop .out) 512 (h .loop .n) (omega arith) (omega arith) (omega arith) (h .loop .inv .4),
+      tab-done (inEights (blockMark (a .radius) (a .sf .now))) (h .loop .out) 512 (h .loop .n) (omega arith) (omega arith) (omega arith) (h .loop .inv .4),
       (h .loop .inv .1 ∙ rw e (filled-all _ 2048 (a .samples .now) (s .pre .1 .0)), h .loop .inv .2 ∙ rw e (filled-all _ 2048 (a .marks .now) (s .pre .1 .1 .0))),
     )
 

@@ -23,11 +23,11 @@ use Rattle.sound.proofs.four.Statement.{statement}
 use Rattle.sound.proofs.four.Tie as tie
 
 abbrev Inv-loop : tie.InvT-loop
-Inv-loop table singles pairs places starts sf n factors samples₀ marks₀ mark codes first j₀ samples marks j =
-    (j ≤ 4) × (samples ≡ filled (λ j. inRows (sampleAt sf factors) (4 * n + j)) j samples₀) × (marks ≡ filled (λ j. inRows (markAt sf factors) (4 * n + j)) j marks₀)
+Inv-loop table singles pairs places starts radius sf n factors samples₀ marks₀ mark codes first j₀ samples marks j =
+    (j ≤ 4) × (samples ≡ filled (λ j. inRows (sampleAt radius sf factors) (4 * n + j)) j samples₀) × (marks ≡ filled (λ j. inRows (markAt radius sf factors) (4 * n + j)) j marks₀)
 
 abbrev μ-loop : tie.MeasureT-loop
-μ-loop table singles pairs places starts sf n factors samples₀ marks₀ mark codes first j₀ samples marks j = 4 - j
+μ-loop table singles pairs places starts radius sf n factors samples₀ marks₀ mark codes first j₀ samples marks j = 4 - j
 
 -- from the loop's head back to the block that was read, and to the entry
 abbrev read-of : tie.At-loop Inv-loop μ-loop → tie.After-read-at Inv-loop μ-loop
@@ -79,11 +79,11 @@ array-copy-out-sound-of c = search needs
 
 -- a superframe, and a place that is there: the block was not refused
 module _ (c : tie.After-read-at Inv-loop μ-loop) where
-  given : c .read-at .result ≡ quadIn (entry-of c .args .sf .now) (entry-of c .args .n / 8) (entry-of c .args .n % 8)
+  given : c .read-at .result ≡ quadIn (entry-of c .args .radius) (entry-of c .args .sf .now) (entry-of c .args .n / 8) (entry-of c .args .n % 8)
   given =
       let s = entry-of c in
       let there : s .args .n < 512 = s .pre .0 .1 in
-      c .read-at .ensures ∙ quad-given _ _ _ _ _ (s .pre .1 .1 .1) (s .args .sf .now) (s .args .n / 8) (s .args .n % 8) (s .pre .0 .0) (omega arith) (omega arith)
+      c .read-at .ensures ∙ quad-given _ _ _ _ _ (s .pre .1 .1 .1 .0) (s .args .radius) (s .pre .1 .1 .1 .1) (s .args .sf .now) (s .args .n / 8) (s .args .n % 8) (s .pre .0 .0) (omega arith) (omega arith)
 
 -- code j of the block that was read
 module _ (c : tie.After-sound-of-arg Inv-loop μ-loop) where
@@ -91,7 +91,7 @@ module _ (c : tie.After-sound-of-arg Inv-loop μ-loop) where
   start = entry-of (read-of (c .before .before .before))
 
   block : List ℕ
-  block = handedOn (blockIn (start .args .sf .now) (start .args .n / 8) (start .args .n % 8))
+  block = handedOn (start .args .radius) (blockIn (start .args .sf .now) (start .args .n / 8) (start .args .n % 8))
 
   code-is : toZ w16 (ofZ w16 (getD (read-of (c .before .before .before) .read-at .result .codes) (c .before .before .before .loop .j) (pos 0)))
       ≡ getD (codesAt block) (c .before .before .before .loop .j) (pos 0)
@@ -136,18 +136,18 @@ loop-again c =
     let j = h .loop .j in
     let n : length (a .samples .now) ≡ 4 = s .pre .1 .0 in
     let n' : length (a .marks .now) ≡ 4 = s .pre .1 .1 .0 in
-    let sample : c .before .sound-of .result ≡ inRows (sampleAt (a .sf .now) (a .factors .now)) (4 * a .n + j) =
+    let sample : c .before .sound-of .result ≡ inRows (sampleAt (a .radius) (a .sf .now) (a .factors .now)) (4 * a .n + j) =
     c .before .sound-of .ensures ∙ ap (λ (z : ℤ). soundAt z (getD (a .factors .now) (4 * (a .n % 8) + j) 0)) (code-is (c .before .before))
-    ∙ sample-there (a .sf .now) (a .factors .now) (a .n) j (omega arith) in
-    let mark : c .marked .result ≡ inRows (markAt (a .sf .now) (a .factors .now)) (4 * a .n + j) =
+    ∙ sample-there (a .radius) (a .sf .now) (a .factors .now) (a .n) j (omega arith) in
+    let mark : c .marked .result ≡ inRows (markAt (a .radius) (a .sf .now) (a .factors .now)) (4 * a .n + j) =
     c .marked .ensures ∙ ap (λ (q : Quad). markWith (q .mark) (getD (a .factors .now) (4 * (a .n % 8) + j) 0)) (given read)
-    ∙ ap (λ (m : ℕ). markWith m (getD (a .factors .now) (4 * (a .n % 8) + j) 0)) (quad-mark (a .sf .now) (a .n / 8) (a .n % 8) (omega arith) (omega arith))
-    ∙ mark-there (a .sf .now) (a .factors .now) (a .n) j (omega arith) in (
+    ∙ ap (λ (m : ℕ). markWith m (getD (a .factors .now) (4 * (a .n % 8) + j) 0)) (quad-mark (a .radius) (a .sf .now) (a .n / 8) (a .n % 8) (omega arith) (omega arith))
+    ∙ mark-there (a .radius) (a .sf .now) (a .factors .now) (a .n) j (omega arith) in (
       search needs,
       rw (toZ-ofZ w16 (c .before .sound-of .result) (record { sfits = c .before .sound-of .ok }), sample, h .loop .inv .1, add-one)
-          (filled-set (λ j. inRows (sampleAt (a .sf .now) (a .factors .now)) (4 * a .n + j)) j (a .samples .now) (omega arith)),
+          (filled-set (λ j. inRows (sampleAt (a .radius) (a .sf .now) (a .factors .now)) (4 * a .n + j)) j (a .samples .now) (omega arith)),
       rw (mark, h .loop .inv .2, add-one)
-          (filled-set (λ j. inRows (markAt (a .sf .now) (a .factors .now)) (4 * a .n + j)) j (a .marks .now) (omega arith)),
+          (filled-set (λ j. inRows (markAt (a .radius) (a .sf .now) (a .factors .now)) (4 * a .n + j)) j (a .marks .now) (omega arith)),
     )
 
 same-length : tie.Need-same-length Inv-loop μ-loop
@@ -161,7 +161,7 @@ returns c =
     let h = c .before in
     let s = entry-of (read-of h) in
     let e : h .loop .j ≡ 4 = omega arith in (
-      ap (λ (q : Quad). q .mark) (given (read-of h)) ∙ quad-mark (s .args .sf .now) (s .args .n / 8) (s .args .n % 8) (omega arith) (omega arith),
+      ap (λ (q : Quad). q .mark) (given (read-of h)) ∙ quad-mark (s .args .radius) (s .args .sf .now) (s .args .n / 8) (s .args .n % 8) (omega arith) (omega arith),
       (h .loop .inv .1 ∙ rw e (filled-all _ 4 (s .args .samples .now) (s .pre .1 .0)), h .loop .inv .2 ∙ rw e (filled-all _ 4 (s .args .marks .now) (s .pre .1 .1 .0))),
     )
 

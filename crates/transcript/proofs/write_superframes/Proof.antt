@@ -5,10 +5,10 @@ use Rattle.transcript.proofs.write_superframes.Statement.{statement}
 use Rattle.transcript.proofs.write_superframes.Tie as tie
 
 abbrev Inv-loop : tie.InvT-loop
-Inv-loop count state₀ k₀ state k = k ≤ count
+Inv-loop count radius state₀ k₀ state k = k ≤ count
 
 abbrev μ-loop : tie.MeasureT-loop
-μ-loop count state₀ k₀ state k = count - k
+μ-loop count radius state₀ k₀ state k = count - k
 
 fresh-requires : tie.Need-fresh-requires Inv-loop μ-loop
 fresh-requires c κs = search needs

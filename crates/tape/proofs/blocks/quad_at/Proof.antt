@@ -20,7 +20,7 @@ returns c =
     let a = c .before .before .before .before .args in
     ap (λ (t : Told). quadOf t)
     (c .before .read-by .ensures
-    ∙ ap (λ (l : List ℕ). toldBy (a .table .now) (a .singles .now) (a .pairs .now) (a .places .now) (a .starts .now) l) (c .before .before .block-at .ensures))
+    ∙ ap (λ (l : List ℕ). toldBy (a .table .now) (a .singles .now) (a .pairs .now) (a .places .now) (a .starts .now) (a .radius) l) (c .before .before .block-at .ensures))
 
 pub quad-at-spec : {M : Type 1} → statement M
 quad-at-spec = tie.close (tie.spec block-at-requires read-by-requires returns)
