@@ -5,6 +5,7 @@ use crate::block::{self, Block};
 use crate::frame::{self, Letter};
 use crate::numbers::Refusal;
 use crate::programme::{self, Programme};
+use crate::radius;
 use crate::recipe::Recipe;
 use crate::reel;
 use crate::sample;
@@ -24,6 +25,9 @@ pub const MOST_SWEPT: i64 = 4096;
 /// Four superframes.
 pub const MOST_RUN: i64 = 4 * superframe::BYTES as i64;
 
+/// Stands for bad: one more than the places of a block that is mended.
+const BAD: usize = radius::WIDE as usize + 1;
+
 /// The answer to a call, or None where the line cannot be read.
 pub fn answer(line: &str) -> Option<String> {
     let mut words = Words(line.split(' '));
@@ -35,12 +39,13 @@ pub fn answer(line: &str) -> Option<String> {
             one(block.map(|block| text::digits(&block)))
         }
         "bread" => {
-            let read = block::read(&words.digits()?);
+            let radius = words.small()?;
+            let read = block::read(radius, &words.digits()?);
             one(read.map(|(reading, block)| {
                 let reading = match reading {
                     Reading::Clean => 0,
                     Reading::Mended(places) => places,
-                    Reading::Bad => 3,
+                    Reading::Bad => BAD,
                 };
                 format!("{reading} {}", text::digits(&block))
             }))
@@ -140,6 +145,7 @@ pub fn answer(line: &str) -> Option<String> {
             }
         }
         "take" => {
+            let radius = words.small()?;
             let lengths = Lengths {
                 bytes: words.number(0, taking::MOST_BYTES as i64)? as usize,
                 samples: words.number(0, MOST_LENT as i64)? as usize,
@@ -148,7 +154,7 @@ pub fn answer(line: &str) -> Option<String> {
             let seed = words.number(0, i64::from(u32::MAX))? as u32;
             let recipe = Recipe::of(seed, words.bytes_of_length()?);
             let state = words.state()?;
-            taking::answer(&state, lengths, &recipe).ok()?
+            taking::answer(radius, &state, lengths, &recipe).ok()?
         }
         _ => return None,
     };

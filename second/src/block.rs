@@ -2,6 +2,7 @@
 
 use crate::bits::{self, Bit};
 use crate::numbers::Refusal;
+use crate::radius;
 use crate::word::{self, Reading, PROTECTED, SOUND};
 
 pub const LENGTH: usize = 77;
@@ -41,13 +42,13 @@ pub fn write(content: &Content) -> Result<Block, Refusal> {
     Ok(block)
 }
 
-/// The reading of the protected bits, and the block with them mended. The last 14 bits pass unchanged.
-pub fn read(block: &Block) -> Result<(Reading, Block), Refusal> {
-    if !bits::all_in_range(block) {
+/// The reading of the protected bits at a radius, and the block with them mended. The last 14 bits pass unchanged.
+pub fn read(radius: u8, block: &Block) -> Result<(Reading, Block), Refusal> {
+    if !radius::in_range(radius) || !bits::all_in_range(block) {
         return Err(Refusal::Range);
     }
     let mut out = *block;
-    let reading = word::read(&mut out[..PROTECTED]);
+    let reading = word::read(radius, &mut out[..PROTECTED]);
     Ok((reading, out))
 }
 

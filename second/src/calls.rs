@@ -1,5 +1,6 @@
 //! Making call lines: those that can be gone through one by one, and random ones. README.md gives the grammar.
 
+mod blocks;
 mod random;
 mod scales;
 mod superframes;
@@ -8,6 +9,7 @@ mod systematic;
 use crate::answer::state_text;
 use crate::bits::Bit;
 use crate::block::{self, Block};
+use crate::radius;
 use crate::random::Random;
 use crate::scale::{self, COPIES};
 use crate::service::{Labels, Service, CHANNELS, CHARACTERS};
@@ -85,6 +87,17 @@ fn state(random: &mut Random, position: u8, stage: u8, zero: bool) -> State {
         },
     }
 }
+
+/// One time in twenty a number that is none.
+fn drawn_radius(random: &mut Random) -> u8 {
+    match random.percent(95) {
+        true => random.one_of(&radius::BOTH),
+        false => random.one_of(&NO_RADII),
+    }
+}
+
+/// Numbers that are no radius: those around the two, and the edges of the kind of word.
+const NO_RADII: [u8; 5] = [0, 1, 4, 5, 255];
 
 /// How many fields of a state have a range.
 const FIELDS: u64 = 4;

@@ -6,6 +6,7 @@ pub mod stretches;
 pub mod wav;
 
 use crate::listing::Tally;
+use crate::radius;
 use crate::reel::{self, End};
 use crate::superframe::{State, Taken, FRAMES, PROGRAMMES};
 use crate::transcript;
@@ -18,34 +19,41 @@ use std::path::{Path, PathBuf};
 use stretches::{Stretch, Stretches, Trouble};
 use wav::Track;
 
-/// How far from a code word a block is mended.
-const RADIUS: u32 = 2;
 const BUFFER: usize = 1 << 16;
 
 type Buffered = BufWriter<File>;
 
-/// What shall be written where: `FOLDER [NAME COMMIT]`.
+/// What shall be written where: `FOLDER [NAME COMMIT [RADIUS]]`.
+#[derive(Debug)]
 pub struct Order {
     pub folder: PathBuf,
     /// The reel's name as it was given.
     pub name: OsString,
     pub commit: OsString,
+    pub radius: u8,
 }
 
 impl Order {
     /// None where the words are too few or too many.
-    pub fn parse(words: &[OsString]) -> Option<Order> {
-        let (folder, name, commit) = match words {
-            [folder] => (folder, "-".into(), "-".into()),
-            [folder, name, commit] => (folder, name.clone(), commit.clone()),
+    pub fn parse(words: &[OsString]) -> Option<Result<Order, String>> {
+        let dash = OsString::from("-");
+        let (folder, name, commit, radius) = match words {
+            [folder] => (folder, &dash, &dash, Ok(radius::ORDINARY)),
+            [folder, name, commit] => (folder, name, commit, Ok(radius::ORDINARY)),
+            [folder, name, commit, radius] => (
+                folder,
+                name,
+                commit,
+                radius::parse(&radius.to_string_lossy()),
+            ),
             _ => return None,
         };
-        let folder = folder.into();
-        Some(Order {
-            folder,
-            name,
-            commit,
-        })
+        Some(radius.map(|radius| Order {
+            folder: folder.into(),
+            name: name.clone(),
+            commit: commit.clone(),
+            radius,
+        }))
     }
 }
 
@@ -55,9 +63,13 @@ pub fn write(input: impl Read, order: &Order) -> io::Result<End> {
     let mut folder = Folder::start(&order.folder)?;
     let mut state = State::fresh();
     let end = reel::walk(input, |bytes| {
-        let (answer, next) = state.take(bytes);
+        let (answer, next) = state.take(order.radius, bytes);
+        // The listing counts by the ordinary reading, whatever the radius.
+        match order.radius {
+            radius::ORDINARY => folder.tally.add(&answer),
+            _ => folder.tally.add(&state.take(radius::ORDINARY, bytes).0),
+        }
         let before = std::mem::replace(&mut state, next);
-        folder.tally.add(&answer);
         folder.superframes += 1;
         match answer {
             Ok(taken) => folder.put_taken(&before, &taken),
@@ -123,10 +135,15 @@ impl Folder {
             programme.finish()?;
         }
         self.tally.write(end, &mut self.listing)?;
-        let Order { name, commit, .. } = order;
+        let Order {
+            name,
+            commit,
+            radius,
+            ..
+        } = order;
         for (word, value) in [
             ("reel", name.as_bytes()),
-            ("radius", RADIUS.to_string().as_bytes()),
+            ("radius", radius.to_string().as_bytes()),
             ("commit", commit.as_bytes()),
         ] {
             self.about

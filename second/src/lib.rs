@@ -1,4 +1,4 @@
-//! A second reader and writer of DSR reels, written from document 01 and directive 3R1 alone.
+//! A second reader and writer of DSR reels, written from documents 01 and 02 and directive 3R1 alone.
 //! README.md says what it is for and how it is used.
 
 pub mod answer;
@@ -14,6 +14,7 @@ pub mod listing;
 pub mod make;
 pub mod numbers;
 pub mod programme;
+pub mod radius;
 pub mod random;
 pub mod recipe;
 pub mod reel;

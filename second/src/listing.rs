@@ -1,6 +1,7 @@
-//! The listing of a reel (document 01, "Reel file and listing").
+//! The listing of a reel (document 01, "Reel file and listing"). It counts by the ordinary reading.
 
 use crate::numbers::Refusal;
+use crate::radius;
 use crate::reel::{self, End};
 use crate::superframe::{Counts, State, Taken};
 use std::io::{self, Read, Write};
@@ -9,7 +10,7 @@ pub fn list(input: impl Read, output: &mut impl Write) -> io::Result<()> {
     let mut state = State::fresh();
     let mut tally = Tally::default();
     let end = reel::walk(input, |bytes| {
-        let (answer, next) = state.take(bytes);
+        let (answer, next) = state.take(radius::ORDINARY, bytes);
         state = next;
         tally.add(&answer);
         Ok(())

@@ -1,6 +1,6 @@
 //! The command line: `second make | listing | transcript | hand-on | calls | answer | check`.
 
-use second::{calls, check, damage, hand_on, listing, make, transcript};
+use second::{calls, check, damage, hand_on, listing, make, radius, transcript};
 use std::ffi::OsString;
 use std::io::{self, BufWriter, Write};
 use std::process::ExitCode;
@@ -8,12 +8,14 @@ use std::process::ExitCode;
 const USAGE: &str = "\
 second make SEED N [damage ...]   write a reel of N superframes
 second listing                    read a reel, write its listing
-second transcript                 read a reel, write every answer of the reader
-second hand-on FOLDER             read a reel, write the folder for the restorers
+second transcript [RADIUS]        read a reel, write every answer of the reader
+second hand-on FOLDER [NAME COMMIT [RADIUS]]
+                                  read a reel, write the folder for the restorers
 second calls all                  write the systematic call lines
 second calls SEED N               write N random call lines
 second answer                     read call lines, write each with its answer
 second check [all | SEED N]       read answered lines, check every answer
+RADIUS is 2 or 3, and 2 where it is not given.
 README.md tells the words of damage and the form of the lines.";
 
 fn main() -> ExitCode {
@@ -65,12 +67,15 @@ fn run(arguments: &[String], output: &mut impl Write) -> Result<ExitCode, Fault>
             make::make(&order, output)?;
         }
         ["listing"] => listing::list(io::stdin().lock(), output)?,
-        ["transcript"] => transcript::write(io::stdin().lock(), output)?,
+        ["transcript"] => transcript::write(radius::ORDINARY, io::stdin().lock(), output)?,
+        ["transcript", word] => {
+            transcript::write(radius::parse(word)?, io::stdin().lock(), output)?
+        }
         ["hand-on", ..] => {
             // A path and a name are bytes, and stay as they were given.
             let words: Vec<OsString> = std::env::args_os().skip(2).collect();
             let order = hand_on::Order::parse(&words);
-            let order = order.ok_or(format!("which folder?\n{USAGE}"))?;
+            let order = order.ok_or(format!("which folder?\n{USAGE}"))??;
             let end = hand_on::write(io::stdin().lock(), &order)?;
             transcript::write_end(end, output)?;
         }

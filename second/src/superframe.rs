@@ -1,9 +1,10 @@
-//! The superframe and the reader's state (document 01, "Superframe").
+//! The superframe and the reader's state (document 01, "Superframe"; document 02, P9).
 
 use crate::bits::{self, Bit};
 use crate::block::{self, Block};
 use crate::frame::{self, Letter};
 use crate::numbers::Refusal;
+use crate::radius;
 use crate::sample;
 use crate::scale::{self, Extra};
 use crate::service::{Heard, Service, CHANNELS};
@@ -17,7 +18,12 @@ pub const SAMPLES: usize = FRAMES * CHANNELS;
 /// In place of a factor.
 pub const MISSING: u8 = 8;
 
-/// The marks: 0 clean, 1 mended, 2 block bad, 3 no factor.
+/// The marks of blocks.
+const CLEAN: u8 = 0;
+const MENDED: u8 = 1;
+const BAD: u8 = 2;
+const MENDED_WITH_3: u8 = 4;
+/// The mark that wins over each of these.
 const NO_FACTOR: u8 = 3;
 
 /// The letter of main frame 1 to 128: 64 of A, then 64 of B.
@@ -43,6 +49,25 @@ pub struct Counts {
     pub clean: u64,
     pub mended: u64,
     pub bad: u64,
+}
+
+impl Counts {
+    fn add(&mut self, reading: Reading) {
+        match reading {
+            Reading::Clean => self.clean += 1,
+            Reading::Mended(_) => self.mended += 1,
+            Reading::Bad => self.bad += 1,
+        }
+    }
+}
+
+fn mark_of(reading: Reading) -> u8 {
+    match reading {
+        Reading::Clean => CLEAN,
+        Reading::Mended(3) => MENDED_WITH_3,
+        Reading::Mended(_) => MENDED,
+        Reading::Bad => BAD,
+    }
 }
 
 /// What a superframe that wasn't lost hands on. Samples and marks are frame by frame,
@@ -112,16 +137,16 @@ impl State {
         Ok((heard, state))
     }
 
-    /// One superframe: what it hands on or the number, and the next state beside either.
-    pub fn take(&self, bytes: &[u8]) -> (Result<Taken, Refusal>, State) {
+    /// One superframe, its blocks read at a radius: what it hands on or the number, and the next state beside either.
+    pub fn take(&self, radius: u8, bytes: &[u8]) -> (Result<Taken, Refusal>, State) {
         if bytes.len() != BYTES {
             return (Err(Refusal::Length), self.clone());
         }
         let lost = match self.lose() {
-            Ok(state) => state,
-            Err(refusal) => return (Err(refusal), self.clone()),
+            Ok(state) if radius::in_range(radius) => state,
+            _ => return (Err(Refusal::Range), self.clone()),
         };
-        match Received::read(bytes).and_then(|received| self.hear(&received)) {
+        match Received::read(bytes).and_then(|received| self.hear(radius, &received)) {
             Ok((taken, state)) => (Ok(taken), state),
             Err(refusal) => (Err(refusal), lost),
         }
@@ -131,6 +156,7 @@ impl State {
     /// that is taken writes.
     pub fn take_into(
         &self,
+        radius: u8,
         bytes: &[u8],
         samples: &mut [i16],
         marks: &mut [u8],
@@ -138,7 +164,7 @@ impl State {
         if samples.len() != SAMPLES || marks.len() != SAMPLES {
             return (Err(Refusal::Length), self.clone());
         }
-        let (answer, next) = self.take(bytes);
+        let (answer, next) = self.take(radius, bytes);
         if let Ok(taken) = &answer {
             samples.copy_from_slice(taken.samples.as_flattened());
             marks.copy_from_slice(taken.marks.as_flattened());
@@ -146,35 +172,22 @@ impl State {
         (answer, next)
     }
 
-    fn hear(&self, received: &Received) -> Result<(Taken, State), Refusal> {
+    fn hear(&self, radius: u8, received: &Received) -> Result<(Taken, State), Refusal> {
         let mut samples = vec![[0; CHANNELS]; FRAMES];
         let mut marks = vec![[NO_FACTOR; CHANNELS]; FRAMES];
         let mut counts = [Counts::default(); 8];
         let mut extra = vec![[0; scale::EXTRA]; PROGRAMMES];
         for (f, blocks) in received.blocks.iter().enumerate() {
             for (b, block) in blocks.iter().enumerate() {
-                let (reading, block) = block::read(block)?;
-                let mark = match reading {
-                    Reading::Clean => {
-                        counts[b].clean += 1;
-                        0
-                    }
-                    Reading::Mended(_) => {
-                        counts[b].mended += 1;
-                        1
-                    }
-                    Reading::Bad => {
-                        counts[b].bad += 1;
-                        2
-                    }
-                };
+                let (reading, block) = block::read(radius, block)?;
+                counts[b].add(reading);
                 let content = block::content(&block)?;
                 // Of the eight blocks, the b-th carries programmes 2b-1 and 2b, channels 4b-3 to 4b.
                 for (c, code) in content.codes.iter().enumerate() {
                     let channel = 4 * b + c;
                     if self.now[channel] != MISSING {
                         samples[f][channel] = sample::sample_of(*code, self.now[channel])? as i16;
-                        marks[f][channel] = mark;
+                        marks[f][channel] = mark_of(reading);
                     }
                 }
                 extra[2 * b][f] = content.extra[0];

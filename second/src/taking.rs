@@ -31,12 +31,18 @@ impl Lengths {
     };
 }
 
-pub fn answer(state: &State, lengths: Lengths, recipe: &Recipe) -> Result<String, Refusal> {
+pub fn answer(
+    radius: u8,
+    state: &State,
+    lengths: Lengths,
+    recipe: &Recipe,
+) -> Result<String, Refusal> {
     let mut bytes = recipe.superframe()?;
     bytes.resize(lengths.bytes, 0);
     let mut samples = [SAMPLE; MOST_LENT];
     let mut marks = [MARK; MOST_LENT];
     let (taken, next) = state.take_into(
+        radius,
         &bytes,
         &mut samples[..lengths.samples],
         &mut marks[..lengths.marks],

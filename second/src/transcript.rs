@@ -1,4 +1,4 @@
-//! The transcript: every answer of the reader for each superframe of a reel.
+//! The transcript: every answer of the reader for each superframe of a reel, its blocks read at a radius.
 
 use crate::reel::{self, End};
 use crate::scale::Extra;
@@ -7,11 +7,11 @@ use crate::superframe::{State, Taken};
 use crate::text;
 use std::io::{self, Read, Write};
 
-pub fn write(input: impl Read, output: &mut impl Write) -> io::Result<()> {
+pub fn write(radius: u8, input: impl Read, output: &mut impl Write) -> io::Result<()> {
     let mut state = State::fresh();
     let mut superframe = 0;
     let end = reel::walk(input, |bytes| {
-        let (answer, next) = state.take(bytes);
+        let (answer, next) = state.take(radius, bytes);
         state = next;
         superframe += 1;
         match answer {

@@ -1,7 +1,9 @@
-//! The protected 63 bits: 44 sound bits and 19 check bits (document 01, "The block").
+//! The protected 63 bits: 44 sound bits and 19 check bits (document 01, "The block"; document 02, P9).
 
 use crate::bits::{self, Bit};
 use crate::division;
+use crate::radius;
+use std::collections::HashMap;
 use std::sync::OnceLock;
 
 pub const SOUND: usize = 44;
@@ -14,7 +16,7 @@ const POWERS: [usize; 8] = [19, 15, 10, 9, 8, 6, 4, 0];
 #[derive(Clone, Copy, Debug, PartialEq, Eq)]
 pub enum Reading {
     Clean,
-    /// The number of places turned, 1 or 2.
+    /// The number of places turned, from 1 to the radius.
     Mended(usize),
     Bad,
 }
@@ -28,9 +30,9 @@ pub fn check_bits(sound: &[Bit]) -> Vec<Bit> {
 struct Tables {
     /// For each of the 63 places the remainder that a one in it alone leaves.
     remainder: [usize; PROTECTED],
-    /// For each remainder the places (counted from 0) to turn: none, or the one or two that leave it.
-    /// No two choices of at most two places leave the same remainder, since code words differ in at least 8.
-    turn: Vec<Option<(usize, Option<usize>)>>,
+    /// For each remainder the places to turn that leave it: 0 is left by none. No two choices of at most three places
+    /// leave the same remainder, since code words differ in at least 8.
+    turn: HashMap<usize, Vec<usize>>,
 }
 
 fn tables() -> &'static Tables {
@@ -47,20 +49,35 @@ fn tables() -> &'static Tables {
                 1 << (PROTECTED - 1 - place)
             };
         }
-        let mut turn = vec![None; 1 << CHECK];
-        for one in 0..PROTECTED {
-            turn[remainder[one]] = Some((one, None));
-            for two in one + 1..PROTECTED {
-                turn[remainder[one] ^ remainder[two]] = Some((one, Some(two)));
-            }
+        let left =
+            |places: &Vec<usize>| places.iter().fold(0, |sum, place| sum ^ remainder[*place]);
+        let turn = choices().into_iter().map(|places| (left(&places), places));
+        Tables {
+            remainder,
+            turn: turn.collect(),
         }
-        Tables { remainder, turn }
     })
 }
 
-/// Reads the 63 bits in place: clean where they are a code word, mended to the code word at most two
+/// Every choice of at most three of the 63 places, counted from 0: none, each one, each two, each three.
+pub fn choices() -> Vec<Vec<usize>> {
+    let mut all = vec![Vec::new()];
+    let mut longest = 0;
+    for _ in 0..radius::WIDE {
+        let mut longer = Vec::new();
+        for choice in &all[longest..] {
+            let next = choice.last().map_or(0, |place| place + 1);
+            longer.extend((next..PROTECTED).map(|place| [&choice[..], &[place]].concat()));
+        }
+        longest = all.len();
+        all.extend(longer);
+    }
+    all
+}
+
+/// Reads the 63 bits in place: clean where they are a code word, mended to the code word at most `radius`
 /// places away, else bad and as received (mission, demand 2).
-pub fn read(word: &mut [Bit]) -> Reading {
+pub fn read(radius: u8, word: &mut [Bit]) -> Reading {
     let tables = tables();
     let mut left = 0;
     for (bit, remainder) in word.iter().zip(&tables.remainder) {
@@ -68,19 +85,16 @@ pub fn read(word: &mut [Bit]) -> Reading {
             left ^= remainder;
         }
     }
-    if left == 0 {
-        return Reading::Clean;
-    }
-    match tables.turn[left] {
-        None => Reading::Bad,
-        Some((one, None)) => {
-            word[one] ^= 1;
-            Reading::Mended(1)
+    match tables.turn.get(&left) {
+        Some(places) if places.len() <= usize::from(radius) => {
+            for place in places {
+                word[*place] ^= 1;
+            }
+            match places.len() {
+                0 => Reading::Clean,
+                turned => Reading::Mended(turned),
+            }
         }
-        Some((one, Some(two))) => {
-            word[one] ^= 1;
-            word[two] ^= 1;
-            Reading::Mended(2)
-        }
+        _ => Reading::Bad,
     }
 }

@@ -1,6 +1,9 @@
 //! Random call lines: good, at the edges, damaged and out of range.
 
-use super::{between, part_way, sent, service, spoil, state, superframes, turn, written, FIELDS};
+use super::{
+    between, blocks, drawn_radius, part_way, sent, service, spoil, state, superframes, turn,
+    written, FIELDS,
+};
 use crate::answer::{hex_or_dash, state_text, MOST_BYTES, MOST_RUN, MOST_SAMPLES, MOST_SWEPT};
 use crate::bits::{self, Bit};
 use crate::block::Block;
@@ -170,7 +173,7 @@ fn block_read(random: &mut Random) -> String {
         true => damaged(random),
         false => random.bits(),
     };
-    format!("bread {}", text::digits(&spoilt(block, random)))
+    blocks::read_line(drawn_radius(random), &spoilt(block, random))
 }
 
 /// Four blocks, each as `damaged` gives them.

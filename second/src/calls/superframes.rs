@@ -1,9 +1,10 @@
 //! Call lines that take a superframe: every refusal in its order, every edge, and random ones.
 
-use super::{spoil, state, FIELDS};
+use super::{drawn_radius, spoil, state, FIELDS, NO_RADII};
 use crate::answer::state_text;
 use crate::bits::{self, Bit};
 use crate::frame::{self, SYNC};
+use crate::radius;
 use crate::random::Random;
 use crate::recipe::Recipe;
 use crate::service::{CHANNELS, SYNC_1, SYNC_2};
@@ -20,6 +21,7 @@ const NEITHER: &str = "0000010111011111";
 /// What one line asks for.
 #[derive(Clone)]
 struct Asked {
+    radius: u8,
     state: State,
     lengths: Lengths,
     recipe: Recipe,
@@ -38,6 +40,7 @@ impl Asked {
             turned: 0,
         };
         Asked {
+            radius: radius::ORDINARY,
             state: state(&mut random, 3, 2, false),
             lengths: Lengths::RIGHT,
             recipe,
@@ -51,7 +54,8 @@ impl Asked {
             marks,
         } = self.lengths;
         format!(
-            "take {bytes} {samples} {marks} {} {} {}",
+            "take {} {bytes} {samples} {marks} {} {} {}",
+            self.radius,
             self.recipe.seed,
             text::hex(&self.recipe.bytes()),
             state_text(&self.state)
@@ -73,14 +77,25 @@ pub fn all() -> impl Iterator<Item = String> {
         refusals_in_order(),
         length_edges(),
         every_sync(),
-        every_position(),
-        every_damage(),
-        every_factor(),
+        at_both_radii(every_position()),
+        at_both_radii(every_damage()),
+        at_both_radii(every_factor()),
+        longest(),
     ];
     parts.into_iter().flatten().map(|asked| asked.line())
 }
 
-/// A length, the state and a sync, each right or wrong, in all combinations.
+fn at_both_radii(all: Vec<Asked>) -> Vec<Asked> {
+    let each = all.into_iter().flat_map(|asked| {
+        radius::BOTH.map(|radius| Asked {
+            radius,
+            ..asked.clone()
+        })
+    });
+    each.collect()
+}
+
+/// A length, the radius, the state and a sync, each right or wrong, in all combinations.
 fn refusals_in_order() -> Vec<Asked> {
     let right = Lengths::RIGHT;
     let lengths = [
@@ -101,13 +116,16 @@ fn refusals_in_order() -> Vec<Asked> {
     let mut all = Vec::new();
     for lengths in lengths {
         for field in 0..=FIELDS {
-            for turned in [0, LAST_THREE_SYNC_BITS] {
-                let mut asked = Asked::good(&[1, field]);
-                asked.lengths = lengths;
-                spoil(&mut asked.state, field, CHANNELS - 1, MISSING + 1);
-                asked.recipe.place = (superframe::BYTES - frame::BYTES + 1) as u16;
-                asked.recipe.turned = turned;
-                all.push(asked);
+            let mut asked = Asked::good(&[1, field]);
+            asked.lengths = lengths;
+            spoil(&mut asked.state, field, CHANNELS - 1, MISSING + 1);
+            asked.recipe.place = (superframe::BYTES - frame::BYTES + 1) as u16;
+            for radius in [&radius::BOTH[..], &NO_RADII].concat() {
+                asked.radius = radius;
+                for turned in [0, LAST_THREE_SYNC_BITS] {
+                    asked.recipe.turned = turned;
+                    all.push(asked.clone());
+                }
             }
         }
     }
@@ -199,7 +217,7 @@ fn every_position() -> Vec<Asked> {
     all
 }
 
-/// From no wrong place to one in two.
+/// From no wrong place to nearly all of them; at rates from 4 to 16 many blocks have three.
 fn every_damage() -> Vec<Asked> {
     let mut all = Vec::new();
     for rate in [0, 1, 4, 8, 12, 16, 32, 128, 255] {
@@ -223,18 +241,43 @@ fn every_factor() -> Vec<Asked> {
     asked.collect()
 }
 
-/// A line with one word that is not of its kind, each in its turn.
-pub fn unreadable() -> impl Iterator<Item = String> {
-    let good = Asked::good(&[7]).line();
-    let wrong = ["10241", "4097", "4097", "4294967296", "00"];
-    (0..wrong.len()).map(move |n| {
-        let mut words: Vec<&str> = good.split(' ').collect();
-        words[n + 1] = wrong[n];
-        words.join(" ")
-    })
+/// A line that has as many characters as one can have.
+fn longest() -> Vec<Asked> {
+    let mut asked = Asked::good(&[8]);
+    asked.radius = u8::MAX;
+    asked.lengths = Lengths {
+        bytes: MOST_BYTES,
+        samples: MOST_LENT,
+        marks: MOST_LENT,
+    };
+    asked.recipe.seed = u32::MAX;
+    vec![asked]
 }
 
-/// A random line: mostly taken, else with a wrong length, a state out of range, a wrong sync, or several of them.
+/// A line with one word that is not of its kind, each in its turn, and one without a radius.
+pub fn unreadable() -> impl Iterator<Item = String> {
+    let good = Asked::good(&[7]).line();
+    let wrong = [
+        (1, "256"),
+        (1, "03"),
+        (1, "-1"),
+        (1, "x"),
+        (2, "10241"),
+        (3, "4097"),
+        (4, "4097"),
+        (5, "4294967296"),
+        (6, "00"),
+    ];
+    let without = good.replacen("take 2 ", "take ", 1);
+    let one_wrong = wrong.into_iter().map(move |(n, word)| {
+        let mut words: Vec<&str> = good.split(' ').collect();
+        words[n] = word;
+        words.join(" ")
+    });
+    one_wrong.chain([without])
+}
+
+/// A random line: mostly taken, else with a wrong length, no radius, a state out of range, a wrong sync, or several of them.
 pub fn random(random: &mut Random, state: State, six: [u8; 6], sync: &[Bit]) -> String {
     let mut lengths = Lengths::RIGHT;
     if random.percent(15) {
@@ -259,6 +302,7 @@ pub fn random(random: &mut Random, state: State, six: [u8; 6], sync: &[Bit]) -> 
         turned,
     };
     let asked = Asked {
+        radius: drawn_radius(random),
         state,
         lengths,
         recipe,

@@ -1,20 +1,18 @@
 //! Call lines that go through everything there is, or through every edge.
 
-use super::{scales, service, state, superframes, turn, written};
+use super::{blocks, scales, service, state, superframes};
 use crate::answer::{state_text, MOST_RUN, MOST_SWEPT};
 use crate::bits;
-use crate::block;
 use crate::random::Random;
 use crate::reel;
 use crate::service::{SYNC_1, SYNC_2};
 use crate::superframe;
 use crate::text;
-use crate::word::PROTECTED;
 
 type Lines = Box<dyn Iterator<Item = String>>;
 
 /// Everything that can be gone through: all programme bytes, names and modes, all samples and codes at
-/// all factors, all scale words, all choices of at most two wrong places of them and of a block,
+/// all factors, all scale words, all choices of at most two wrong places of them and of at most three of a block,
 /// and the edges of headers, runs, factors, states and superframes.
 pub fn all() -> impl Iterator<Item = String> {
     let parts: Vec<Lines> = vec![
@@ -25,8 +23,7 @@ pub fn all() -> impl Iterator<Item = String> {
         Box::new(all_sweeps("samples")),
         Box::new(factor_edges()),
         Box::new(scales::all()),
-        Box::new(all_pairs_of_places()),
-        Box::new(bench_blocks()),
+        Box::new(blocks::all()),
         Box::new(header_edges()),
         Box::new(run_edges()),
         Box::new(service_edges()),
@@ -64,44 +61,6 @@ fn factor_edges() -> impl Iterator<Item = String> {
             samples[place] = edge;
             format!("factor {}", text::spaced(samples))
         })
-    })
-}
-
-/// One block as written, then with each choice of one or two of its 63 protected bits turned.
-fn all_pairs_of_places() -> impl Iterator<Item = String> {
-    let block = written(&mut Random::stream(&[0]));
-    let singles = (0..PROTECTED).map(|one| vec![one]);
-    let pairs = (0..PROTECTED).flat_map(|one| (one + 1..PROTECTED).map(move |two| vec![one, two]));
-    let choices = [Vec::new()].into_iter().chain(singles).chain(pairs);
-    choices.map(move |places| {
-        let mut block = block;
-        turn(&mut block, places);
-        format!("bread {}", text::digits(&block))
-    })
-}
-
-/// The blocks of document 01's bench cases, the last 14 bits 0.
-fn bench_blocks() -> impl Iterator<Item = String> {
-    let of = |ones: &[usize]| {
-        let mut block = [0; block::LENGTH];
-        for one in ones {
-            block[one - 1] = 1;
-        }
-        block
-    };
-    let blocks = [
-        of(&[]),
-        of(&(1..=63).collect::<Vec<_>>()),
-        of(&[1, 2, 3]),
-        of(&[44, 48, 53, 54, 55, 57, 59, 63]),
-        of(&[53, 54, 55, 57, 59, 63]),
-        of(&(64..=77).collect::<Vec<_>>()),
-        [1; block::LENGTH],
-        [9; block::LENGTH],
-    ];
-    blocks.into_iter().flat_map(|block| {
-        let digits = text::digits(&block);
-        [format!("bread {digits}"), format!("bcodes {digits}")]
     })
 }
 
@@ -184,8 +143,6 @@ fn unreadable() -> impl Iterator<Item = String> {
         "bwrite 0 0 0 0 0 0 0",
         "bwrite 0 0 x 0 0 0",
         "bwrite 0 0 0 0 0 -1",
-        "bread 0101",
-        "bread 01x1",
         "bcodes",
         "fwrite c",
         "fread a",
@@ -218,7 +175,7 @@ fn unreadable() -> impl Iterator<Item = String> {
         "lose 00",
         "service",
         "take",
-        "take 5120 2048 2048",
+        "take 2 5120 2048 2048",
     ];
     let blanks = [
         good.replace(' ', "  "),
@@ -227,5 +184,8 @@ fn unreadable() -> impl Iterator<Item = String> {
         good.to_uppercase(),
     ];
     let short = bad.into_iter().map(str::to_string);
-    short.chain(superframes::unreadable()).chain(blanks)
+    short
+        .chain(blocks::unreadable())
+        .chain(superframes::unreadable())
+        .chain(blanks)
 }

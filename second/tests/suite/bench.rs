@@ -28,9 +28,12 @@ fn far_from_every_code_word() {
     three[..3].fill(1);
     for word in [ones, three] {
         let mut out = word;
-        assert_eq!(word::read(&mut out), Reading::Bad);
+        assert_eq!(word::read(2, &mut out), Reading::Bad);
         assert_eq!(out, word, "as received");
     }
+    // The word of zeros is three places away.
+    assert_eq!(word::read(3, &mut three), Reading::Mended(3));
+    assert_eq!(three, [0; 63]);
 }
 
 #[test]
@@ -42,8 +45,11 @@ fn two_of_eight_ones_cleared() {
     received[44 - 1] = 0;
     received[48 - 1] = 0;
     assert_eq!(bits::distance(&sent, &received), 2);
-    assert_eq!(word::read(&mut received), Reading::Mended(2));
-    assert_eq!(received, sent);
+    for radius in [2, 3] {
+        let mut out = received.clone();
+        assert_eq!(word::read(radius, &mut out), Reading::Mended(2));
+        assert_eq!(out, sent);
+    }
 }
 
 #[test]

@@ -54,7 +54,9 @@ fn written_is_read_back() {
             extra: random.bits(),
         };
         let block = block::write(&content).unwrap();
-        assert_eq!(block::read(&block), Ok((Reading::Clean, block)));
+        for radius in [2, 3] {
+            assert_eq!(block::read(radius, &block), Ok((Reading::Clean, block)));
+        }
         assert_eq!(block::content(&block), Ok(content));
     }
     for code in [-8192, -1, 0, 8191] {
@@ -71,23 +73,44 @@ fn written_is_read_back() {
 #[test]
 fn unprotected_bits_pass() {
     let sent = block_of([1, -2, 3000, -4000], [1, 0]);
-    for wrong in [0, 1, 2, 3] {
+    for (radius, wrong) in [2, 3].into_iter().flat_map(|r| (0..5).map(move |n| (r, n))) {
         let mut received = sent;
-        for place in [5, 50, 62].into_iter().take(wrong) {
+        for place in [5, 50, 62, 30].into_iter().take(wrong) {
             received[place] ^= 1;
         }
         for bit in &mut received[63..] {
             *bit ^= 1;
         }
-        let (reading, out) = block::read(&received).unwrap();
+        let (reading, out) = block::read(radius, &received).unwrap();
         assert_eq!(out[63..], received[63..]);
         let (expected, protected) = match wrong {
             0 => (Reading::Clean, &sent[..63]),
-            3 => (Reading::Bad, &received[..63]),
+            _ if wrong > usize::from(radius) => (Reading::Bad, &received[..63]),
             _ => (Reading::Mended(wrong), &sent[..63]),
         };
         assert_eq!(reading, expected);
         assert_eq!(&out[..63], protected);
+    }
+}
+
+/// Document 02, P9: any radius but 2 and 3 is refused, whatever the bits are.
+#[test]
+fn radius_out_of_range() {
+    let good = block_of([7, 8, 9, -10], [0, 1]);
+    let mut bad = good;
+    for place in [1, 2, 3, 4] {
+        bad[place] ^= 1;
+    }
+    let mut no_bit = good;
+    no_bit[76] = 2;
+    for radius in 0..=255 {
+        let right = radius == 2 || radius == 3;
+        for block in [good, bad] {
+            let read = block::read(radius, &block);
+            assert_eq!(read.is_ok(), right, "radius {radius}");
+            assert!(right || read == Err(Refusal::Range));
+        }
+        assert_eq!(block::read(radius, &no_bit), Err(Refusal::Range));
     }
 }
 
@@ -97,7 +120,9 @@ fn out_of_range() {
         for entry in [2, 9, 255] {
             let mut block = [0; 77];
             block[place] = entry;
-            assert_eq!(block::read(&block), Err(Refusal::Range));
+            for radius in [2, 3] {
+                assert_eq!(block::read(radius, &block), Err(Refusal::Range));
+            }
             assert_eq!(block::content(&block), Err(Refusal::Range));
         }
     }

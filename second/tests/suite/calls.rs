@@ -11,6 +11,7 @@ fn answers() {
     let zeros = |count| "0".repeat(count);
     let bit_44 = format!("{}10001000011101010001{}", zeros(43), zeros(14));
     let cleared = format!("{}00000000011101010001{}", zeros(43), zeros(14));
+    let five = format!("{}00000000001101010001{}", zeros(43), zeros(14));
     let z77 = zeros(77);
     let fresh = format!(
         "{} {} 00 00 {} {}",
@@ -29,13 +30,29 @@ fn answers() {
         ("bwrite 0 0 0 8 0 0".to_string(), format!("0 {bit_44}")),
         ("bwrite 0 0 0 8192 0 0".to_string(), "2".to_string()),
         ("bwrite 0 0 0 0 2 0".to_string(), "2".to_string()),
-        (format!("bread {bit_44}"), format!("0 0 {bit_44}")),
-        (format!("bread {cleared}"), format!("0 2 {bit_44}")),
+        (format!("bread 2 {bit_44}"), format!("0 0 {bit_44}")),
+        (format!("bread 3 {bit_44}"), format!("0 0 {bit_44}")),
+        (format!("bread 2 1{}", zeros(76)), format!("0 1 {z77}")),
+        (format!("bread 3 1{}", zeros(76)), format!("0 1 {z77}")),
+        (format!("bread 2 {cleared}"), format!("0 2 {bit_44}")),
+        (format!("bread 3 {cleared}"), format!("0 2 {bit_44}")),
         (
-            format!("bread 111{}", zeros(74)),
-            format!("0 3 111{}", zeros(74)),
+            format!("bread 2 111{}", zeros(74)),
+            format!("0 4 111{}", zeros(74)),
         ),
-        (format!("bread 2{}", zeros(76)), "2".to_string()),
+        (format!("bread 3 111{}", zeros(74)), format!("0 3 {z77}")),
+        (
+            format!("bread 3 1111{}", zeros(73)),
+            format!("0 4 1111{}", zeros(73)),
+        ),
+        // Five of the eight ones of a code word: the other three are turned, though five were wrong.
+        (format!("bread 2 {five}"), format!("0 4 {five}")),
+        (format!("bread 3 {five}"), format!("0 3 {bit_44}")),
+        (format!("bread 2 2{}", zeros(76)), "2".to_string()),
+        (format!("bread 3 2{}", zeros(76)), "2".to_string()),
+        (format!("bread 1 {bit_44}"), "2".to_string()),
+        (format!("bread 4 {bit_44}"), "2".to_string()),
+        (format!("bread 0 2{}", zeros(76)), "2".to_string()),
         (
             format!("bcodes 1{}1", zeros(75)),
             "0 -8192 0 0 0 0 1".to_string(),
@@ -189,14 +206,15 @@ fn verdict(text: &str, calls: Option<&mut dyn Iterator<Item = String>>) -> (bool
     (right, said.lines().last().unwrap_or("").to_string())
 }
 
-/// Every function is called, accepted and refused, with lines no longer than the README says.
+/// Every function is called, accepted and refused, with lines as long as the README says and no longer.
 #[test]
 fn lines_cover_the_surface() {
     let text = answered(calls::all()) + &answered(calls::random(1, 5000));
     let mut numbers: HashMap<&str, Vec<&str>> = HashMap::new();
+    let mut longest = (0, 0);
     for line in text.lines() {
         let (call, answer) = line.split_once(" = ").unwrap();
-        assert!(call.len() <= 772 && line.len() <= 1986);
+        longest = (longest.0.max(call.len()), longest.1.max(line.len()));
         let name = call.split(' ').next().unwrap();
         let number = answer.split(' ').next().unwrap();
         let seen = numbers.entry(name).or_default();
@@ -204,6 +222,7 @@ fn lines_cover_the_surface() {
             seen.push(number);
         }
     }
+    assert_eq!(longest, (776, 1986));
     for (name, expected) in [
         ("bwrite", "02"),
         ("bread", "02"),
@@ -253,6 +272,7 @@ fn unreadable_lines() {
         "pread 01",
         "code -0 3",
         "pread 1.0",
+        "bread 2",
         "fresh\r",
     ] {
         assert_eq!(answer(line), None, "'{line}'");

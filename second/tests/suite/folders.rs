@@ -1,6 +1,6 @@
 //! The folder for the restorers, whole.
 
-use crate::hand::{header, listing, make, reel, transcript, Superframe};
+use crate::hand::{header, listing, make, reel, transcript_at, Superframe};
 use second::hand_on::{self, wav, Order};
 use second::reel::End;
 use std::collections::BTreeMap;
@@ -21,7 +21,7 @@ impl Place {
     }
 
     fn order(&self) -> Order {
-        Order::parse(&[self.0.clone().into(), "some.reel".into(), "0123abcd".into()]).unwrap()
+        order(&[self.0.clone().into(), "some.reel".into(), "0123abcd".into()])
     }
 }
 
@@ -29,6 +29,11 @@ impl Drop for Place {
     fn drop(&mut self) {
         let _ = fs::remove_dir_all(&self.0);
     }
+}
+
+/// What words that make sense ask for.
+fn order(words: &[OsString]) -> Order {
+    Order::parse(words).unwrap().unwrap()
 }
 
 struct Handed {
@@ -43,8 +48,16 @@ impl Handed {
 }
 
 fn hand_on(name: &str, reel: &[u8]) -> Handed {
-    let place = Place::new(name);
-    let end = hand_on::write(reel, &place.order()).unwrap();
+    hand_on_at(2, name, reel)
+}
+
+fn hand_on_at(radius: u8, name: &str, reel: &[u8]) -> Handed {
+    let place = Place::new(&format!("{name}-{radius}"));
+    let order = Order {
+        radius,
+        ..place.order()
+    };
+    let end = hand_on::write(reel, &order).unwrap();
     let mut files = BTreeMap::new();
     for file in fs::read_dir(&place.0).unwrap() {
         let path = file.unwrap().path();
@@ -98,15 +111,22 @@ fn damaged_sample() {
     assert_eq!(handed.text("names.txt"), "");
 }
 
-/// Every sample and every mark as the transcript has it, and the words; zeros and 255 where a superframe is lost.
 #[test]
 fn same_as_the_transcript() {
     let reel = make("7 12 rate=150@3-9 sync=3@5 tie%50");
-    let handed = hand_on("transcript", &reel);
+    for radius in [2, 3] {
+        assert_as_the_transcript(radius, &reel);
+    }
+}
+
+/// Every sample and every mark as the transcript has it at that radius, and the words; zeros and 255 where a superframe is lost. The
+/// listing is that of radius 2.
+fn assert_as_the_transcript(radius: u8, reel: &[u8]) {
+    let handed = hand_on_at(radius, "transcript", reel);
     let mut sound = vec![wav::header(16, 12 * 64); 16];
     let mut marks = vec![wav::header(8, 12 * 64); 16];
     let mut words = String::new();
-    for line in transcript(&reel).lines() {
+    for line in transcript_at(radius, reel).lines() {
         let parts: Vec<&str> = line.split(' ').collect();
         match parts[0] {
             "words" => words += &format!("{line}\n"),
@@ -132,10 +152,47 @@ fn same_as_the_transcript() {
     for p in 0..16 {
         assert_eq!(handed.files[&format!("{:02}.wav", p + 1)], sound[p]);
         assert_eq!(handed.files[&format!("{:02}.marks.wav", p + 1)], marks[p]);
+        assert_eq!(marks[p][44..].contains(&192), radius == 3);
     }
     assert_eq!(words.matches("lost").count(), 1);
     assert_eq!(handed.text("words.txt"), words);
-    assert_eq!(handed.text("listing.txt"), listing(&reel));
+    assert_eq!(handed.text("listing.txt"), listing(reel));
+}
+
+/// Blocks with three wrong places: at radius 2 bad and to be heard, at radius 3 mended and no trouble. The listing is the same.
+#[test]
+fn three_wrong_places_at_each_radius() {
+    let mut three = Superframe::zero();
+    for (frame, blocks) in three.blocks.iter_mut().enumerate() {
+        // The second block of B carries programmes 11 and 12.
+        for place in [frame % 63, (frame + 1) % 63, (frame + 20) % 63] {
+            blocks[5][place] ^= 1;
+        }
+    }
+    let reel = reel(&[good(), three.bytes(), good(), three.bytes()]);
+    let listing = "superframes 4\nlost 0\nsync 0\nclean 1920\nmended 0\nbad 128\nend ok\n";
+    let start = "0.00000000\t0.00400000\tno factor 128\n";
+    for (radius, mark, lines) in [
+        (2, 160, "0.00000000\t0.00800000\tbad 64, no factor 128\n"),
+        (3, 192, start),
+    ] {
+        let handed = hand_on_at(radius, "three", &reel);
+        for p in 1..=16 {
+            let theirs = p == 11 || p == 12;
+            // The second superframe has no factors yet, and mark 3 wins.
+            let last = if theirs { mark } else { 128 };
+            let marks = [[176; 256].as_slice(), &[128; 128], &[last; 128]].concat();
+            assert_eq!(handed.files[&format!("{p:02}.marks.wav")][44..], marks);
+            let labels = handed.text(&format!("{p:02}.labels.txt"));
+            assert_eq!(labels, if theirs { lines } else { start });
+        }
+        let about = format!("reel some.reel\nradius {radius}\ncommit 0123abcd\n");
+        assert_eq!(handed.text("about.txt"), about);
+        assert_eq!(handed.text("listing.txt"), listing);
+        // Mended, the sound is that of the zeros that were sent.
+        let sound = &handed.files["11.wav"][44..];
+        assert_eq!(sound.iter().all(|byte| *byte == 0), radius == 3);
+    }
 }
 
 /// One sample of each side, behind a loss: its place in the file is its time.
@@ -286,13 +343,27 @@ fn words_as_they_were_given() {
     let mut folder = OsString::from(&place.0);
     folder.push("//");
     let name = OsStr::from_bytes(b"tape \xe4 1").to_os_string();
-    let order = Order::parse(&[folder.clone(), name, "c".into()]).unwrap();
-    hand_on::write(&make("1 1")[..], &order).unwrap();
+    let asked = order(&[folder.clone(), name, "c".into()]);
+    hand_on::write(&make("1 1")[..], &asked).unwrap();
     let about = fs::read(place.0.join("about.txt")).unwrap();
     assert_eq!(about, b"reel tape \xe4 1\nradius 2\ncommit c\n");
-    let order = Order::parse(&[folder.clone()]).unwrap();
-    assert_eq!((order.name, order.commit), ("-".into(), "-".into()));
-    for count in [0, 2, 4] {
+    let asked = order(&[folder.clone()]);
+    assert_eq!((asked.name, asked.commit), ("-".into(), "-".into()));
+    assert_eq!(asked.radius, 2);
+    for count in [0, 2, 5] {
         assert!(Order::parse(&vec![folder.clone(); count]).is_none());
     }
+}
+
+#[test]
+fn radius_as_it_was_given() {
+    let words = |radius: &OsStr| ["f".into(), "n".into(), "c".into(), radius.to_os_string()];
+    for (word, radius) in [("2", 2), ("3", 3)] {
+        assert_eq!(order(&words(word.as_ref())).radius, radius);
+    }
+    for word in ["", "0", "1", "4", "02", "+3", "3 ", "-2", "23", "258", "x"] {
+        assert!(Order::parse(&words(word.as_ref())).unwrap().is_err());
+    }
+    let no_text = OsStr::from_bytes(b"3\xff");
+    assert!(Order::parse(&words(no_text)).unwrap().is_err());
 }

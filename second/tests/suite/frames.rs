@@ -172,7 +172,7 @@ fn burst_of_four() {
                 let here = bits::distance(received, sent);
                 assert!(here <= 2, "{here} wrong from bit {start}");
                 wrong += here;
-                let (reading, out) = block::read(received).unwrap();
+                let (reading, out) = block::read(2, received).unwrap();
                 let protected = bits::distance(&received[..63], &sent[..63]);
                 let expected = match protected {
                     0 => Reading::Clean,

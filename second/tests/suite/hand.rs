@@ -80,8 +80,12 @@ pub fn listing(reel: &[u8]) -> String {
 }
 
 pub fn transcript(reel: &[u8]) -> String {
+    transcript_at(2, reel)
+}
+
+pub fn transcript_at(radius: u8, reel: &[u8]) -> String {
     let mut text = Vec::new();
-    second::transcript::write(reel, &mut text).unwrap();
+    second::transcript::write(radius, reel, &mut text).unwrap();
     String::from_utf8(text).unwrap()
 }
 

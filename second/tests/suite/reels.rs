@@ -1,6 +1,6 @@
 //! Reel files, the listing, the transcript, and the reels that are made.
 
-use crate::hand::{header, listing, make, reel, transcript, Superframe, NEITHER};
+use crate::hand::{header, listing, make, reel, transcript, transcript_at, Superframe, NEITHER};
 use second::make::Order;
 use second::numbers::Refusal;
 use second::reel::{read_header, run_count, start_of, Header};
@@ -298,6 +298,81 @@ fn transcript_by_hand() {
         .position(|line| line == "superframe 2 number 3")
         .unwrap();
     assert_eq!(cut, expected[..=lost].join("\n") + "\nend short\n");
+}
+
+/// Blocks with up to four wrong places, one in each frame, by hand: which of them are mended and how they are marked at each radius.
+/// The listing has the ordinary reading.
+#[test]
+fn transcript_at_each_radius() {
+    let mut damaged = Superframe::zero();
+    for wrong in 1..=4 {
+        // Block `wrong` of frame `wrong`: channels 4 wrong - 3 on.
+        damaged.blocks[wrong - 1][wrong - 1][30..30 + wrong].fill(1);
+    }
+    let reel = reel(&[damaged.bytes(), damaged.bytes(), damaged.bytes()]);
+    for (radius, blocks, marks) in [
+        (2, "blocks 508 2 2", [1, 1, 2, 2]),
+        (3, "blocks 508 3 1", [1, 1, 4, 2]),
+    ] {
+        let text = transcript_at(radius, &reel);
+        assert_eq!(lines(&text, "blocks"), [blocks; 3]);
+        let rows = lines(&text, "marks");
+        for frame in 0..64 {
+            // No factors in the first two superframes: mark 3 wins.
+            let none = format!("marks {} {}", frame + 1, "3".repeat(32));
+            assert_eq!([rows[frame], rows[64 + frame]], [none.as_str(); 2]);
+            let mut row = [0; 32];
+            if let Some(mark) = marks.get(frame) {
+                row[4 * frame..4 * frame + 4].fill(*mark);
+            }
+            let row = second::text::digits(&row);
+            assert_eq!(rows[128 + frame], format!("marks {} {row}", frame + 1));
+        }
+        // Bits 31 to 33 of a block are the last of the upper ones of its third code.
+        let zero = format!("samples 3 {}", vec!["0"; 32].join(" "));
+        assert_eq!(lines(&text, "samples 3 ")[2] == zero, radius == 3);
+    }
+    let counts = "superframes 3\nlost 0\nsync 0\nclean 1524\nmended 6\nbad 6\nend ok\n";
+    assert_eq!(listing(&reel), counts);
+}
+
+/// Of a damaged reel all lines but those of blocks, marks and samples are the same at both radii, and all of a reel without such damage.
+#[test]
+fn transcripts_at_both_radii() {
+    let others = |text: &str| -> Vec<String> {
+        let radius = ["blocks", "marks", "samples"];
+        let other = |line: &&str| !radius.iter().any(|word| line.starts_with(word));
+        text.lines().filter(other).map(str::to_string).collect()
+    };
+    for words in [
+        "4 8 upto=5 scale=9 sync=3@5",
+        "4 6 rate=300 service=1%50",
+        "4 4 chaff@3",
+    ] {
+        let reel = make(words);
+        let (ordinary, wide) = (transcript(&reel), transcript_at(3, &reel));
+        assert_eq!(others(&ordinary), others(&wide));
+        assert_ne!(lines(&ordinary, "blocks"), lines(&wide, "blocks"));
+        let has_4 = |text: &str| {
+            let rows = lines(text, "marks");
+            rows.iter()
+                .any(|row| row.rsplit(' ').next().unwrap().contains('4'))
+        };
+        assert_eq!((has_4(&ordinary), has_4(&wide)), (false, true));
+    }
+    for words in [
+        "4 6",
+        "4 6 places=2 low=5",
+        "4 6 burst=4 sync=3@2",
+        "4 6 places=4",
+    ] {
+        let reel = make(words);
+        assert_eq!(transcript(&reel), transcript_at(3, &reel), "{words}");
+    }
+    let text = transcript_at(3, &make("4 4 places=3"));
+    assert_eq!(lines(&text, "blocks"), ["blocks 0 512 0"; 4]);
+    let good = transcript(&make("4 4"));
+    assert_eq!(lines(&text, "samples"), lines(&good, "samples"));
 }
 
 /// The lines of a transcript that start with a word.

@@ -329,11 +329,10 @@ fn states_out_of_range() {
             if !good {
                 assert_eq!(state.lose(), Err(Refusal::Range));
                 // Before number 3 the state's 2; it stays as given.
-                assert_eq!(state.take(&[0; 5120]), (Err(Refusal::Range), state.clone()));
-                assert_eq!(
-                    state.take(&[0; 5119]),
-                    (Err(Refusal::Length), state.clone())
-                );
+                let given = state.clone();
+                assert_eq!(state.take(2, &[0; 5120]), (Err(Refusal::Range), given));
+                let given = state.clone();
+                assert_eq!(state.take(2, &[0; 5119]), (Err(Refusal::Length), given));
             }
         }
     }

@@ -32,7 +32,7 @@ fn number(recipe: &Recipe, kind: u64, place: u64) -> u64 {
 }
 
 fn taken(state: &State, recipe: &Recipe) -> Taken {
-    let (taken, _) = state.take(&recipe.superframe().unwrap());
+    let (taken, _) = state.take(2, &recipe.superframe().unwrap());
     taken.unwrap()
 }
 
@@ -188,13 +188,14 @@ fn nothing() -> String {
     format!("0 {eight} {eight} {eight} {beside} {samples} {marks}")
 }
 
-fn line(lengths: &str, recipe: &Recipe, state: &State) -> String {
+/// The first words are the radius and the three lengths.
+fn line(first: &str, recipe: &Recipe, state: &State) -> String {
     let bytes: String = recipe.bytes().iter().map(|b| format!("{b:02x}")).collect();
     let seed = recipe.seed;
-    format!("take {lengths} {seed} {bytes} {}", state_text(state))
+    format!("take {first} {seed} {bytes} {}", state_text(state))
 }
 
-/// From document 01, "Numbers given": 1, 2, 3 in this order, and the state that each leaves.
+/// From document 01, "Numbers given": 1, 2, 3 in this order, and the state that each leaves. No radius is 2 (document 02, P9).
 #[test]
 fn refusals() {
     let good = busy_state();
@@ -216,27 +217,50 @@ fn refusals() {
         "5120 2048 4096",
         "10240 4096 4096",
     ] {
-        for state in [&good, &wrong] {
+        for (radius, state) in [(2, &good), (2, &wrong), (3, &good), (4, &good), (0, &wrong)] {
             for recipe in [&plain(5), &damaged] {
                 let expected = format!("1 {} {}", state_text(state), nothing());
-                assert_eq!(answer(&line(lengths, recipe, state)), Some(expected));
+                let first = format!("{radius} {lengths}");
+                assert_eq!(answer(&line(&first, recipe, state)), Some(expected));
             }
         }
     }
     let right = "5120 2048 2048";
-    for recipe in [&plain(5), &damaged] {
-        let expected = format!("2 {} {}", state_text(&wrong), nothing());
-        assert_eq!(answer(&line(right, recipe, &wrong)), Some(expected));
+    for (radius, state) in [
+        (2, &wrong),
+        (3, &wrong),
+        (0, &good),
+        (1, &good),
+        (4, &wrong),
+    ]
+    .into_iter()
+    .chain([4, 5, 127, 128, 254, 255].map(|radius| (radius, &good)))
+    {
+        for recipe in [&plain(5), &damaged] {
+            let expected = format!("2 {} {}", state_text(state), nothing());
+            let first = format!("{radius} {right}");
+            assert_eq!(answer(&line(&first, recipe, state)), Some(expected));
+        }
     }
-    let expected = format!("3 {} {}", state_text(&lost), nothing());
-    assert_eq!(answer(&line(right, &damaged, &good)), Some(expected));
-    let taken = answer(&line(right, &plain(5), &good)).unwrap();
-    assert!(taken.starts_with("0 "));
+    for radius in [2, 3] {
+        let first = format!("{radius} {right}");
+        let expected = format!("3 {} {}", state_text(&lost), nothing());
+        assert_eq!(answer(&line(&first, &damaged, &good)), Some(expected));
+        let taken = answer(&line(&first, &plain(5), &good)).unwrap();
+        assert!(taken.starts_with("0 "));
+    }
 }
 
-/// Everything handed out stands in the answer: here labels come, and some programmes' scale words are as near to several.
 #[test]
 fn answer_of_a_superframe() {
+    for (radius, has_4) in [(2, false), (3, true)] {
+        let marks = assert_answer(radius);
+        assert_eq!(marks.contains(&4), has_4);
+    }
+}
+
+/// Everything handed out stands in the answer: here labels come, and some programmes' scale words are as near to several. Gives the marks.
+fn assert_answer(radius: u8) -> Vec<u64> {
     let mut state = busy_state();
     state.service.position = 8;
     state.service.stage = 8;
@@ -245,7 +269,7 @@ fn answer_of_a_superframe() {
         scale: 100,
         ..plain(3)
     };
-    let (taken, next) = state.take(&recipe.superframe().unwrap());
+    let (taken, next) = state.take(radius, &recipe.superframe().unwrap());
     let taken = taken.unwrap();
     let hex = |count: fn(&Counts) -> u64| -> String {
         let counts = taken.blocks.iter().map(count);
@@ -291,8 +315,9 @@ fn answer_of_a_superframe() {
         sum(&samples).to_string(),
         sum(&marks).to_string(),
     ];
-    let said = answer(&line("5120 2048 2048", &recipe, &state));
+    let said = answer(&line(&format!("{radius} 5120 2048 2048"), &recipe, &state));
     assert_eq!(said, Some(expected.join(" ")));
+    marks
 }
 
 /// The word of an answer that has the sum of wrong sync bits, behind the number and the six of the state.
@@ -304,13 +329,16 @@ fn byte(word: &str, n: usize) -> usize {
 
 /// The place of the byte in which bits are turned, and those bits.
 fn turned_in(words: &[&str]) -> (usize, usize) {
-    let recipe = words[5];
+    let recipe = words[6];
     let place = 256 * byte(recipe, 10) + byte(recipe, 11);
     (place, byte(recipe, 12))
 }
 
-/// Which of the three faults a line has, by its words: a wrong length, a number out of range, a wrong sync.
-fn faults(words: &[&str]) -> [bool; 3] {
+/// The number of each fault that a line may have: a wrong length, no radius, a number of the state out of range, a wrong sync.
+const NUMBERS: [usize; 4] = [1, 2, 2, 3];
+
+/// Which of them a line has, by its words.
+fn faults(words: &[&str]) -> [bool; 4] {
     let over = |word: &str| (0..word.len() / 2).any(|n| byte(word, n) > 8);
     let (place, turned) = turned_in(words);
     let sync = match place % 40 {
@@ -319,15 +347,17 @@ fn faults(words: &[&str]) -> [bool; 3] {
         _ => 0,
     };
     [
-        words[1..4] != ["5120", "2048", "2048"],
-        words[6..10].iter().any(|word| over(word)),
+        words[2..5] != ["5120", "2048", "2048"],
+        !["2", "3"].contains(&words[1]),
+        words[7..11].iter().any(|word| over(word)),
         place < 5120 && (turned & sync).count_ones() > 2,
     ]
 }
 
 /// The answer to a readable `take` line, whose number is that of its first fault.
-fn answered(line: &str, faults: [bool; 3]) -> Vec<String> {
-    let number = faults.iter().position(|fault| *fault).map_or(0, |n| n + 1);
+fn answered(line: &str, faults: [bool; 4]) -> Vec<String> {
+    let first = faults.iter().position(|fault| *fault);
+    let number = first.map_or(0, |n| NUMBERS[n]);
     let answer = answer(line).unwrap();
     let said: Vec<String> = answer.split(' ').map(str::to_string).collect();
     assert_eq!(said[0], number.to_string(), "{line}");
@@ -349,7 +379,7 @@ fn systematic_lines() {
         }
         let words: Vec<&str> = line.split(' ').collect();
         let faults = faults(&words);
-        seen.insert(faults);
+        seen.insert((words[1].to_string(), faults));
         let said = answered(&line, faults);
         let (place, turned) = turned_in(&words);
         if said[0] == "3" {
@@ -371,10 +401,11 @@ fn systematic_lines() {
             far.extend((0..16).map(|p| (&said[SYNC + 4][p..=p] == "5", byte(&said[SYNC + 6], p))));
         }
     }
-    // Two that are too short, and one for each word before the state.
-    assert_eq!(unreadable, 7);
-    assert_eq!((seen.len(), frames.len(), syncs.len()), (8, 128, 11));
-    assert_eq!(numbers.len(), 8);
+    // Two that are too short, one without a radius, four with a word that is none, and one for each other word before the state.
+    assert_eq!(unreadable, 2 + 1 + 4 + 5);
+    // Each radius, and each of five numbers that are none, with a length, the state and a sync right and wrong.
+    assert_eq!(seen.len(), 7 * 8);
+    assert_eq!((frames.len(), syncs.len(), numbers.len()), (128, 11, 8));
     // Three readings; with number 5 and without; nine positions with 0 and 7, and at the last one labels too.
     assert_eq!(brought.len(), 3 + 2 + 18 + 2);
     // Scale words are any number of places away; with number 5 it is 0.
@@ -383,15 +414,55 @@ fn systematic_lines() {
     assert!(far.contains(&(true, 0)));
 }
 
+/// In many systematic lines at radius 3 blocks are mended with 3: some of those that the same line at radius 2 has as bad. The marks are
+/// then others, but where no channel has a factor.
+#[test]
+fn systematic_lines_with_mark_4() {
+    let mut count = [0, 0];
+    for line in calls::all().filter(|line| line.starts_with("take 3 ")) {
+        let said = |line: &str| -> Vec<String> {
+            let answer = answer(line).unwrap_or_default();
+            answer.split(' ').map(str::to_string).collect()
+        };
+        let (wide, ordinary) = (said(&line), said(&line.replacen('3', "2", 1)));
+        assert_eq!(wide[0], ordinary[0]);
+        if wide[0] != "0" || wide[SYNC + 2] == ordinary[SYNC + 2] {
+            assert_eq!(wide, ordinary);
+            continue;
+        }
+        for n in 0..8 {
+            let of = |said: &[String], reading: usize| byte(&said[SYNC + 1 + reading], n);
+            assert_eq!(of(&wide, 0), of(&ordinary, 0));
+            let more = of(&wide, 1) - of(&ordinary, 1);
+            assert_eq!(of(&wide, 2) + more, of(&ordinary, 2));
+        }
+        // All but the counts of mended and bad blocks and the sums of samples and marks.
+        let others = |said: &[String]| [&said[..SYNC + 2], &said[SYNC + 4..SYNC + 11]].concat();
+        assert_eq!(others(&wide), others(&ordinary));
+        let none = line.split(' ').nth(7) == Some(&"08".repeat(32));
+        assert_eq!(wide[SYNC + 12] == ordinary[SYNC + 12], none);
+        count[usize::from(none)] += 1;
+    }
+    assert!(count[0] > 100 && count[1] > 0, "{count:?}");
+}
+
 /// Of the random lines some are refused with each number, and more than half are not.
 #[test]
 fn random_lines() {
     let mut count = [0; 4];
+    let mut radii = HashSet::new();
     for line in calls::random(1, 30000).filter(|line| line.starts_with("take")) {
-        let faults = faults(&line.split(' ').collect::<Vec<_>>());
+        let words: Vec<&str> = line.split(' ').collect();
+        let faults = faults(&words);
         let said = answered(&line, faults);
         count[said[0].parse::<usize>().unwrap()] += 1;
+        radii.insert((words[1].to_string(), said[0].clone()));
     }
     assert!(count.iter().all(|times| *times > 10));
     assert!(2 * count[0] > count.iter().sum());
+    for radius in ["2", "3"] {
+        let said = |number: &str| radii.contains(&(radius.to_string(), number.to_string()));
+        assert!(["0", "1", "2", "3"].into_iter().all(said));
+    }
+    assert!(radii.contains(&("4".to_string(), "2".to_string())));
 }
