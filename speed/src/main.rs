@@ -1,5 +1,5 @@
-//! How fast the proved reader is, beside a plain program that works bit by bit: on the same reels, in one process, by turns, the fastest of several runs of
-//! each. Before anything is timed, every superframe is taken by both, and all that they hand out has to be the same.
+//! How fast the proved reader is, beside a plain program that works bit by bit, and at radius 3 beside itself at radius 2: on the same reels, in one process,
+//! by turns, the fastest of several runs of each. Before the two are timed, every superframe is taken by both, and all that they hand out has to be the same.
 
 mod plain;
 mod proved;
@@ -138,18 +138,18 @@ fn time(reel: &Superframes, reader: Reader) -> Duration {
     start.elapsed()
 }
 
-fn measure(path: &str, plain: Reader, proved: Reader) -> Result<(), Fault> {
-    let reel = superframes(path)?;
-    if let Some(place) = differ(&reel, plain, proved) {
-        return Err(Fault::Said(format!(
-            "{path}: superframe {} is taken otherwise by the two",
-            place + 1
-        )));
-    }
+/// Times both readers, and writes the microseconds for a superframe with what their ratio is to be.
+fn measure(
+    path: &str,
+    reel: &Superframes,
+    readers: [Reader; 2],
+    ratio: fn([f64; 2]) -> f64,
+) -> Result<(), Fault> {
     let mut best = [Duration::MAX; 2];
     for _ in 0..RUNS {
-        best[0] = best[0].min(time(&reel, plain));
-        best[1] = best[1].min(time(&reel, proved));
+        for (best, reader) in best.iter_mut().zip(readers) {
+            *best = (*best).min(time(reel, reader));
+        }
     }
     let micros = best.map(|time| time.as_secs_f64() * 1e6 / reel.len() as f64);
     let name = std::path::Path::new(path)
@@ -161,8 +161,29 @@ fn measure(path: &str, plain: Reader, proved: Reader) -> Result<(), Fault> {
         "{name:<12} {:>9.1} {:>9.1} {:>8.2} {:>10.0}",
         micros[0],
         micros[1],
-        micros[0] / micros[1],
+        ratio(micros),
         1e6 / micros[1]
+    ))
+}
+
+/// The plain reader and the proved one, which have to hand out the same.
+fn beside_plain(path: &str, plain: Reader, proved: Reader) -> Result<(), Fault> {
+    let reel = superframes(path)?;
+    if let Some(place) = differ(&reel, plain, proved) {
+        return Err(Fault::Said(format!(
+            "{path}: superframe {} is taken otherwise by the two",
+            place + 1
+        )));
+    }
+    measure(path, &reel, [plain, proved], |[plain, proved]| {
+        plain / proved
+    })
+}
+
+fn heads(first: &str, second: &str) -> Result<(), Fault> {
+    write_line(&format!(
+        "{:<12} {first:>9} {second:>9} {:>8} {:>10}",
+        "reel", "ratio", "a second"
     ))
 }
 
@@ -175,19 +196,34 @@ fn run() -> Result<(), Fault> {
     let plain = |beside: &mut Beside, bytes: &[u8; BYTES], lists: &mut Lists| {
         plain.take(beside, bytes, lists)
     };
+    let ordinary = |beside: &mut Beside, bytes: &[u8; BYTES], lists: &mut Lists| {
+        proved::take(2, beside, bytes, lists)
+    };
+    let wide = |beside: &mut Beside, bytes: &[u8; BYTES], lists: &mut Lists| {
+        proved::take(3, beside, bytes, lists)
+    };
     let first = superframes(&paths[0])?;
     let start = Instant::now();
     while start.elapsed() < WARM {
         time(&first, &plain);
-        time(&first, &proved::take);
+        time(&first, &ordinary);
     }
     write_line(&format!("microseconds for a superframe; the fastest of {RUNS} runs of each, by turns; lists cleared once, before the first superframe"))?;
-    write_line(&format!(
-        "{:<12} {:>9} {:>9} {:>8} {:>10}",
-        "reel", "plain", "proved", "ratio", "a second"
-    ))?;
+    heads("plain", "proved")?;
     for path in &paths {
-        measure(path, &plain, &proved::take)?;
+        beside_plain(path, &plain, &ordinary)?;
+    }
+    write_line(
+        "the proved reader at radius 2 and at radius 3, and how many times as long it takes",
+    )?;
+    heads("at 2", "at 3")?;
+    for path in &paths {
+        measure(
+            path,
+            &superframes(path)?,
+            [&ordinary, &wide],
+            |[two, three]| three / two,
+        )?;
     }
     Ok(())
 }

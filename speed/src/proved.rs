@@ -5,6 +5,7 @@ use crate::{Beside, Lists, BYTES};
 extern "C" {
     // A slice is a pointer and a length.
     fn outside_take(
+        radius: u8,
         beside: *mut u8,
         beside_length: usize,
         bytes: *const u8,
@@ -16,11 +17,12 @@ extern "C" {
     ) -> u8;
 }
 
-pub fn take(beside: &mut Beside, bytes: &[u8; BYTES], lists: &mut Lists) -> u8 {
+pub fn take(radius: u8, beside: &mut Beside, bytes: &[u8; BYTES], lists: &mut Lists) -> u8 {
     let mut packed = beside.packed();
     // SAFETY: every pointer is that of a slice of the length beside it, lent for the call alone; the function asks for nothing else.
     let number = unsafe {
         outside_take(
+            radius,
             packed.as_mut_ptr(),
             packed.len(),
             bytes.as_ptr(),

@@ -59,8 +59,8 @@ fn put_lines(out: &mut [u8], to: usize, reel: &[u8], radius: u8, commit: &[u8]) 
     text::put(out, id, b'\n')
 }
 
-// The lines of `about.txt`, for a reel by its name, the radius that it was read at and the commit of the programs. They are put first where there is no room for them, to learn where
-// they end.
+// The lines of `about.txt`, for a reel by its name, the radius that it was read at and the commit of the programs. They are put first where there is no room
+// for them, to learn where they end.
 pub fn put_about(out: &mut [u8], to: usize, reel: &[u8], radius: u8, commit: &[u8]) -> Placed
     ensures { λ r. ⌜ entered r (now (out .exit)) ≡ enteredText (page (now (out .entry)) to) (aboutText (now (reel .entry)) radius (now (commit .entry))) ⌝ }
 {

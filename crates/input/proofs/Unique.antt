@@ -1,5 +1,5 @@
--- Any two results that meet the promise are the same: for `fault_of`, `fault-of-unique`, and for `radius_of`, `radius-of-unique`. What `header` makes of bytes from outside is unique for those
--- bytes, by this and by `read-header-unique` of `reel`. Assumes nothing.
+-- Any two results that meet the promise are the same: for `fault_of`, `fault-of-unique`, and for `radius_of`, `radius-of-unique`. What `header` and
+-- `radius_at` make of what comes from outside is unique for that, by these and by `read-header-unique` of `reel`. Assumes nothing.
 use mathlib.Core.Path.{_≡_}
 use mathlib.Core.List.{List}
 use Prim.Native.Nat.{ℕ}

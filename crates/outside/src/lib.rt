@@ -1,6 +1,6 @@
-// For programs in other languages: a superframe taken at a radius over lent bytes alone. What is carried from one to the next, but for the service, and the counts stand in
-// 88 bytes: the factors of the 32 channels for the next superframe and those for the one after it, and for each of the eight block positions how many blocks
-// were clean, mended and bad.
+// For programs in other languages: a superframe taken at a radius over lent bytes alone. What is carried from one to the next, but for the service, and the
+// counts stand in 88 bytes: the factors of the 32 channels for the next superframe and those for the one after it, and for each of the eight block positions
+// how many blocks were clean, mended and bad.
 ghost use mathlib.Core.Path.{_≡_};
 ghost use Prim.Native.Nat.{_+_, _≤_, _<_};
 ghost use lib.ListN.{length, getD};

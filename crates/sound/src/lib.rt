@@ -1,4 +1,5 @@
-// The samples and marks of a superframe, read at a radius, at given factors (docs/FORMAT.md, "Superframe"; document 02, P9), each of its 512 blocks into its own four places of two lent slices.
+// The samples and marks of a superframe, read at a radius, at given factors (docs/FORMAT.md, "Superframe"; document 02, P9), each of its 512 blocks into its
+// own four places of two lent slices.
 ghost use mathlib.Core.Path.{_≡_};
 ghost use mathlib.Core.Bool.{true};
 ghost use Prim.Native.Nat.{_+_, _*_, _<_};

@@ -2,8 +2,9 @@
 --     WrongLength sf samples marks      "a lent length is wrong"
 --     OutOfRange s                      "a given number (in a state ..) is out of its range": factors 0 to 7 and 8 for missing, position and stage 0 to 8
 --     NoBits sync                       the same of a sync's entries, which are 0 or 1
---     TakeRefuses ..                    taking a superframe: the numbers in their order, and document 02, P9: "2 for a radius other than two or three, after 1"; "state as before" under 1, "state as given" under 2, "the state after one
---                                       lost superframe" under 3; "a refusal writes into no lent buffer"
+--     TakeRefuses ..                    taking a superframe: the numbers in their order, with "2 for a radius other than two or three, after 1" (document 02, P9);
+--                                       "state as before" under 1, "state as given" under 2, "the state after one lost superframe" under 3; "a refusal writes into no
+--                                       lent buffer"
 --     LoseRefuses s r, ServiceRefuses s sync r      the same of losing one, and of six service bytes
 --     Serves s sf r                     taking a superframe does with its six bytes and its sync what `take_service` does with them
 use Prim.Native.Nat.{ℕ, _<_}

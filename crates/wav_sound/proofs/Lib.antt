@@ -2,3 +2,4 @@ pub mod Back
 pub mod Entry
 pub mod Reel
 pub mod Unique
+pub mod Printed

@@ -5,8 +5,8 @@
 --     word-small, word-digits    the word has 63 digits, which are the protected bits
 --     turned-digits         turning a digit of the word is turning the bit
 --     code-there            a code from the word and the unprotected bits is the block's
---     told-read             THE THEOREM, for any 77 bits and a radius that may be chosen: what `read_by` promises of any tables is, with the true ones, the mark of the block's reading and
---                           the codes of the block as handed on
+--     told-read             THE THEOREM, for any 77 bits and a radius that may be chosen: what `read_by` promises of any tables is, with the true ones, the mark
+--                           of the block's reading and the codes of the block as handed on
 -- Assumes nothing.
 use mathlib.Core.Path.{_≡_, refl, sym, ap, ap₂, _∙_, subst}
 use mathlib.Core.Bool.{Bool, true, cond}
