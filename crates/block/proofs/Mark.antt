@@ -1,6 +1,6 @@
 -- What the mark of a reading says.
 --     mark-says         each mark exactly where the reading is so
---     mark-counts       what it counts as, exactly where the reading is so
+--     mark-kind         what a block counts as by its mark is what its reading is
 -- Assumes nothing.
 use mathlib.Core.Path.{_≡_, refl, sym, ap, _∙_}
 use mathlib.Core.Bool.{Bool, true, false, cond}
@@ -10,7 +10,7 @@ use borrow.Author.Tests.{eqb-true, eqb-false, eq-eqb, ne-eqb}
 use lib.Dec.{eqb}
 use Rattle.bits.proofs.Tests.{either-way}
 use Rattle.block.specs.Read.{Said, clean, mended, bad}
-use Rattle.block.specs.Mark.{markOf, countedAs, IsMended, MendedButThree, Marked, Counts}
+use Rattle.block.specs.Mark.{markOf, kindOf, countedAs, MendedButThree, Marked}
 
 never : {A : Type 0} → _≡_ {A = ℕ} 0 1 → A
 never e = absurd (omega arith)
@@ -82,37 +82,8 @@ mark-says bad =
       three-four = λ e. never (cc);
     }
 
-mended-counts : (n : ℕ) → countedAs (markOf (mended n)) ≡ 1
-unfolding countedAs markOf
-mended-counts n = either-way (eqb n 3) (λ t. rw t) (λ t. rw t)
-
-pub mark-counts : (r : Said) → Counts r (countedAs (markOf r))
-unfolding countedAs markOf
-mark-counts clean =
-    record {
-      zero-clean = λ e. refl;
-      clean-zero = λ e. refl;
-      one-mended = λ e. absurd (omega arith);
-      mended-one = λ m. never (let e = m .is in cc);
-      two-bad = λ e. absurd (omega arith);
-      bad-two = λ e. never (cc);
-    }
-mark-counts (mended n) =
-    let one = mended-counts n in
-    record {
-      zero-clean = λ e. absurd (omega arith);
-      clean-zero = λ e. never (cc);
-      one-mended = λ e. record { places = n; is = refl };
-      mended-one = λ m. one;
-      two-bad = λ e. absurd (omega arith);
-      bad-two = λ e. never (cc);
-    }
-mark-counts bad =
-    record {
-      zero-clean = λ e. absurd (omega arith);
-      clean-zero = λ e. never (cc);
-      one-mended = λ e. absurd (omega arith);
-      mended-one = λ m. never (let e = m .is in cc);
-      two-bad = λ e. refl;
-      bad-two = λ e. refl;
-    }
+pub mark-kind : (r : Said) → countedAs (markOf r) ≡ kindOf r
+unfolding countedAs markOf kindOf
+mark-kind clean = refl
+mark-kind (mended n) = either-way (eqb n 3) (λ t. rw t) (λ t. rw t)
+mark-kind bad = refl

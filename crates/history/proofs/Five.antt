@@ -20,7 +20,8 @@ use Rattle.bits.specs.Table.{tabulate}
 use Rattle.bits.proofs.Table.{getD-tab, tab-ext}
 use Rattle.bits.proofs.Tests.{either-way}
 use Rattle.service.specs.declared.Service.{Service}
-use Rattle.block.specs.Mark.{markOf, countedAs}
+use Rattle.block.specs.Read.{Said}
+use Rattle.block.specs.Mark.{markOf, kindOf}
 use Rattle.reading.specs.Reading.{largestRadius}
 use Rattle.tape.specs.Tape.{synced, readingIn, blockMark, howMany, talliedBy, kindIn, blocksOf}
 use Rattle.tape.proofs.Tape.{many-same}
@@ -153,10 +154,10 @@ module _ (q : ℕ) (low : 1 ≤ q) (high : q ≤ 16) (sf sf' : List ℕ) (d : On
   tally-same : (k : ℕ) → talliedBy (kindIn radius sf) k ≡ talliedBy (kindIn radius sf') k
   unfolding kindIn
   tally-same k =
-      tab-ext 8 (λ p. howMany 64 (λ f. eqb (countedAs (blockMark radius sf f p)) k)) (λ p. howMany 64 (λ f. eqb (countedAs (blockMark radius sf' f p)) k))
+      tab-ext 8 (λ p. howMany 64 (λ f. eqb (kindOf (readingIn radius sf f p)) k)) (λ p. howMany 64 (λ f. eqb (kindOf (readingIn radius sf' f p)) k))
       (λ p h.
-      many-same 64 (λ f. eqb (countedAs (blockMark radius sf f p)) k) (λ f. eqb (countedAs (blockMark radius sf' f p)) k)
-      (λ f l. ap (λ (x : ℕ). eqb (countedAs x) k) (mark-same f p l h)))
+      many-same 64 (λ f. eqb (kindOf (readingIn radius sf f p)) k) (λ f. eqb (kindOf (readingIn radius sf' f p)) k)
+      (λ f l. ap (λ (x : Said). eqb (kindOf x) k) (one.reading-same q low high sf sf' d radius small f p l h)))
 
   blocks-same : blocksOf radius sf ≡ blocksOf radius sf'
   unfolding blocksOf

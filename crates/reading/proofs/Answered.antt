@@ -1,5 +1,7 @@
 -- What an answer of the code makes of a word: its reading, at every radius up to the largest.
---     turn-at, turn-pair, turn-triple     turning a place, or two, or three, is adding their mask
+--     turnEach w l              the word with the bit at each place of a list turned
+--     turn-places, turn-at      turning the places of a mask is adding it; and of a single place
+--     Rising k n l, rising      the places of a mask are in order, from k on and below n
 --     answer-inj                an answer is told by its list of places
 --     Masked m, masked          the answer for a mask with at most three ones
 --     answer-there              there is an answer with the wrong places
@@ -9,8 +11,8 @@
 use mathlib.Core.Path.{_≡_, refl, sym, ap, _∙_, subst}
 use mathlib.Core.List.{List, [], _∷_}
 use mathlib.Core.Option.{Option, none, some}
-use Prim.Native.Nat.{ℕ, zero, suc, _≤_, _<_}
-use native.Mathlib.Nat.{zero-add, suc-inj, suc-ne-zero, not-suc-le-zero, le-of-suc-le-suc}
+use Prim.Native.Nat.{ℕ, zero, suc, _+_, _%_, _≤_, _<_}
+use native.Mathlib.Nat.{zero-add, suc-inj, suc-ne-zero}
 use native.Mathlib.Omega.{arith}
 use lib.ListN.{length}
 use Rattle.bits.specs.Bits.{ones}
@@ -19,52 +21,70 @@ use Rattle.bits.proofs.Digits.{digits-value}
 use Rattle.remainder.specs.Polynomial.{_⊕_}
 use Rattle.remainder.specs.Remainder.{remainder}
 use Rattle.remainder.specs.Columns.{columns}
-use Rattle.remainder.proofs.Sum.{cons, ⊕-zeros}
+use Rattle.remainder.proofs.Sum.{cons}
 use Rattle.remainder.proofs.Division.{length-remainder, below-remainder}
-use Rattle.remainder.proofs.Ones.{ones-zeros}
 use Rattle.remainder.proofs.Columns.{length-columns}
 use Rattle.code.specs.Generators.{blockGenerator}
 use Rattle.code.proofs.Smallest.{block-size}
-use Rattle.reading.specs.Reading.{mended, turned, largestRadius}
+use Rattle.reading.specs.Reading.{turned, largestRadius}
 use Rattle.reading.specs.Search.{seek, reading}
 use Rattle.reading.specs.Wrong.{placesFrom, placesIn, wrongPlaces, answer, turn, readAs, Within}
 use Rattle.reading.specs.declared.Places.{Places}
 use Rattle.reading.specs.declared.Places.the-variants.{Zero, One, Two, Three, Nowhere}
 use Rattle.reading.proofs.Seek.{Fits, Good, seek-good}
 use Rattle.reading.proofs.Fixed.{sought-fits, fits-sought, reading-turned, reading-bad}
-use Rattle.reading.proofs.Few.{at, pair, triple, ones-at, ones-pair, ones-triple, places-zeros, places-at, places-pair, places-triple, Few, zero-ones, one-one, two-ones, three-ones, few}
+use Rattle.reading.proofs.Few.{at, length-at, below-at, places-at}
 
 -- ---- turning places
+unfoldable pub turnEach : List ℕ → List ℕ → List ℕ
+turnEach w [] = w
+turnEach w (i ∷ l) = turnEach (turn w i) l
+
+-- places one further on, in a word with one bit more in front
+turn-behind : (x : ℕ) (w m : List ℕ) (k : ℕ) → turnEach (x ∷ w) (placesFrom (suc k) m) ≡ x ∷ turnEach w (placesFrom k m)
+unfolding turnEach placesFrom turn
+turn-behind x w [] k = refl
+turn-behind x w (zero ∷ m) k = turn-behind x w m (suc k)
+turn-behind x w (suc y ∷ m) k = turn-behind x (turn w k) m (suc k)
+
+pub turn-places : (w m : List ℕ) → Below 2 w → Below 2 m → length m ≡ length w → w ⊕ m ≡ turnEach w (placesFrom 0 m)
+unfolding turnEach placesFrom turn _⊕_ Below
+turn-places [] [] b c h = refl
+turn-places [] (y ∷ m) b c h = absurd (suc-ne-zero _ h)
+turn-places (x ∷ w) [] b c h = absurd (suc-ne-zero _ (sym h))
+turn-places (x ∷ w) (zero ∷ m) b c h =
+    let s : x < 2 = b .0 in
+    cons (omega arith) (turn-places w m (b .1) (c .1) (suc-inj h)) ∙ sym (turn-behind x w m 0)
+turn-places (x ∷ w) (suc zero ∷ m) b c h = cons refl (turn-places w m (b .1) (c .1) (suc-inj h)) ∙ sym (turn-behind ((x + 1) % 2) w m 0)
+turn-places (x ∷ w) (suc (suc y) ∷ m) b c h = absurd (omega (arith, c .0))
+
 pub turn-at : (w : List ℕ) (n i : ℕ) → Below 2 w → length w ≡ n → i < n → w ⊕ at n i ≡ turn w i
-unfolding turn _⊕_ Below
-turn-at [] zero i b h l = absurd (not-suc-le-zero l)
-turn-at [] (suc n) i b h l = absurd (suc-ne-zero _ (sym h))
-turn-at (x ∷ w) zero i b h l = absurd (not-suc-le-zero l)
-turn-at (x ∷ w) (suc n) zero b h l = cons refl (⊕-zeros w n (b .1) (suc-inj h))
-turn-at (x ∷ w) (suc n) (suc i) b h l = let s : x < 2 = b .0 in cons (omega arith) (turn-at w n i (b .1) (suc-inj h) (le-of-suc-le-suc l))
+unfolding turnEach
+turn-at w n i b h l =
+    turn-places w (at n i) b (below-at n i) (length-at n i ∙ sym h) ∙ ap (turnEach w) (places-at 0 n i l ∙ cons (zero-add i) refl)
 
-pub turn-pair : (w : List ℕ) (n i j : ℕ) → Below 2 w → length w ≡ n → i < j → j < n → w ⊕ pair n i j ≡ turn (turn w i) j
-unfolding turn _⊕_ Below
-turn-pair [] zero i j b h k l = absurd (not-suc-le-zero l)
-turn-pair [] (suc n) i j b h k l = absurd (suc-ne-zero _ (sym h))
-turn-pair (x ∷ w) zero i j b h k l = absurd (not-suc-le-zero l)
-turn-pair (x ∷ w) (suc n) i zero b h k l = absurd (not-suc-le-zero k)
-turn-pair (x ∷ w) (suc n) zero (suc j) b h k l = cons refl (turn-at w n j (b .1) (suc-inj h) (le-of-suc-le-suc l))
-turn-pair (x ∷ w) (suc n) (suc i) (suc j) b h k l =
-    let s : x < 2 = b .0 in
-    cons (omega arith) (turn-pair w n i j (b .1) (suc-inj h) (le-of-suc-le-suc k) (le-of-suc-le-suc l))
+-- ---- the places of a mask
+length-places : (k : ℕ) (m : List ℕ) → Below 2 m → length (placesFrom k m) ≡ ones m
+unfolding placesFrom ones Below
+length-places k [] b = refl
+length-places k (zero ∷ m) b = length-places (suc k) m (b .1) ∙ omega arith
+length-places k (suc zero ∷ m) b = ap suc (length-places (suc k) m (b .1)) ∙ omega arith
+length-places k (suc (suc y) ∷ m) b = absurd (omega (arith, b .0))
 
-pub turn-triple : (w : List ℕ) (n i j k : ℕ) → Below 2 w → length w ≡ n → i < j → j < k → k < n → w ⊕ triple n i j k ≡ turn (turn (turn w i) j) k
-unfolding turn _⊕_ Below
-turn-triple [] zero i j k b e g h l = absurd (not-suc-le-zero l)
-turn-triple [] (suc n) i j k b e g h l = absurd (suc-ne-zero _ (sym e))
-turn-triple (x ∷ w) zero i j k b e g h l = absurd (not-suc-le-zero l)
-turn-triple (x ∷ w) (suc n) i zero k b e g h l = absurd (not-suc-le-zero g)
-turn-triple (x ∷ w) (suc n) i (suc j) zero b e g h l = absurd (not-suc-le-zero h)
-turn-triple (x ∷ w) (suc n) zero (suc j) (suc k) b e g h l = cons refl (turn-pair w n j k (b .1) (suc-inj e) (le-of-suc-le-suc h) (le-of-suc-le-suc l))
-turn-triple (x ∷ w) (suc n) (suc i) (suc j) (suc k) b e g h l =
-    let s : x < 2 = b .0 in
-    cons (omega arith) (turn-triple w n i j k (b .1) (suc-inj e) (le-of-suc-le-suc g) (le-of-suc-le-suc h) (le-of-suc-le-suc l))
+pub Rising : ℕ → ℕ → List ℕ → Type 0
+Rising k n [] = Unit {0}
+Rising k n (i ∷ l) = (k ≤ i) × ((i < n) × Rising (suc i) n l)
+
+earlier : (k n : ℕ) (l : List ℕ) → Rising (suc k) n l → Rising k n l
+unfolding Rising
+earlier k n [] h = tt
+earlier k n (i ∷ l) h = (omega (arith, h .0), h .1)
+
+rising : (k n : ℕ) (m : List ℕ) → k + length m ≡ n → Rising k n (placesFrom k m)
+unfolding Rising placesFrom
+rising k n [] h = tt
+rising k n (zero ∷ m) h = earlier k n (placesFrom (suc k) m) (rising (suc k) n m (omega (arith, h)))
+rising k n (suc y ∷ m) h = (omega arith, (omega (arith, h), rising (suc k) n m (omega (arith, h))))
 
 -- ---- an answer is told by its list of places
 back : Option (List ℕ) → Places
@@ -96,45 +116,43 @@ pub record Masked (m : List ℕ) : Type 0 where
   pub within : Within places
   pub reads : (w : List ℕ) → length w ≡ 63 → Below 2 w → turned (ones m) (w ⊕ m) ≡ readAs w places
 
-masked : (m : List ℕ) → Few 63 m → Masked m
-unfolding answer Within readAs turned
-masked m (zero-ones e) =
-    record {
-      places = Zero;
-      are = ap some (sym (ap (placesFrom 0) e ∙ places-zeros 0 63));
-      within = tt;
-      reads = λ w h b. ap (λ (n : ℕ). turned n (w ⊕ m)) (ap ones e ∙ ones-zeros 63);
-    }
-masked m (one-one i l e) =
-    record {
-      places = One i;
-      are = ap some (sym (ap (placesFrom 0) e ∙ places-at 0 63 i l ∙ cons (zero-add i) refl));
-      within = l;
-      reads = λ w h b.
-          ap (λ (n : ℕ). turned n (w ⊕ m)) (ap ones e ∙ ones-at 63 i l) ∙ ap (mended 1) (ap (λ (v : List ℕ). w ⊕ v) e ∙ turn-at w 63 i b h l);
-    }
-masked m (two-ones i j k l e) =
-    record {
-      places = Two i j;
-      are = ap some (sym (ap (placesFrom 0) e ∙ places-pair 0 63 i j k l ∙ cons (zero-add i) (cons (zero-add j) refl)));
-      within = (k, l);
-      reads = λ w h b.
-          ap (λ (n : ℕ). turned n (w ⊕ m)) (ap ones e ∙ ones-pair 63 i j k l) ∙ ap (mended 2) (ap (λ (v : List ℕ). w ⊕ v) e ∙ turn-pair w 63 i j b h k l);
-    }
-masked m (three-ones i j k a b l e) =
+-- the answer for a list of at most three places
+record Listed (l : List ℕ) : Type 0 where
+  places : Places
+  are : answer places ≡ some l
+  within : Rising 0 63 l → Within places
+  reads : (w : List ℕ) → turned (length l) (turnEach w l) ≡ readAs w places
+
+listed : (l : List ℕ) → length l ≤ 3 → Listed l
+unfolding answer Within readAs turned turnEach Rising
+listed [] h = record { places = Zero; are = refl; within = λ r. tt; reads = λ w. refl }
+listed (i ∷ []) h = record { places = One i; are = refl; within = λ r. r .1 .0; reads = λ w. refl }
+listed (i ∷ j ∷ []) h = record { places = Two i j; are = refl; within = λ r. (r .1 .1 .0, r .1 .1 .1 .0); reads = λ w. refl }
+listed (i ∷ j ∷ k ∷ []) h =
     record {
       places = Three i j k;
-      are = ap some (sym (ap (placesFrom 0) e ∙ places-triple 0 63 i j k a b l ∙ cons (zero-add i) (cons (zero-add j) (cons (zero-add k) refl))));
-      within = (a, b, l);
-      reads = λ w h s.
-          ap (λ (n : ℕ). turned n (w ⊕ m)) (ap ones e ∙ ones-triple 63 i j k a b l)
-          ∙ ap (mended 3) (ap (λ (v : List ℕ). w ⊕ v) e ∙ turn-triple w 63 i j k s h a b l);
+      are = refl;
+      within = λ r. (r .1 .1 .0, r .1 .1 .1 .1 .0, r .1 .1 .1 .1 .1 .0);
+      reads = λ w. refl;
+    }
+listed (i ∷ j ∷ k ∷ x ∷ l) h = absurd (omega (arith, h))
+
+masked : (m : List ℕ) → length m ≡ 63 → Below 2 m → ones m ≤ 3 → Masked m
+masked m size bits few =
+    let many : length (placesFrom 0 m) ≡ ones m = length-places 0 m bits in
+    let found : Listed (placesFrom 0 m) = listed (placesFrom 0 m) (omega arith) in
+    record {
+      places = found .places;
+      are = found .are;
+      within = found .within (rising 0 63 m (zero-add (length m) ∙ size));
+      reads = λ w h b.
+          ap (λ (n : ℕ). turned n (w ⊕ m)) (sym many) ∙ ap (turned (length (placesFrom 0 m))) (turn-places w m b bits (size ∙ sym h)) ∙ found .reads w;
     }
 
 module _ (radius : ℕ) (small : radius ≤ largestRadius) where
   module _ (s : List ℕ) where
     found : (m : List ℕ) → Fits radius (columns blockGenerator 63) s m → Masked m
-    found m f = masked m (few 63 m (f .sized ∙ length-columns blockGenerator 63) (f .bits) (omega (arith, f .few)))
+    found m f = masked m (f .sized ∙ length-columns blockGenerator 63) (f .bits) (omega (arith, f .few))
 
     told : (p : Places) (m : List ℕ) (h : Fits radius (columns blockGenerator 63) s m) → answer p ≡ some (placesFrom 0 m) → p ≡ found m h .places
     told p m h e = answer-inj p (found m h .places) (e ∙ sym (found m h .are))

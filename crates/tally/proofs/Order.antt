@@ -11,7 +11,7 @@ use lib.Dec.{eqb}
 use Rattle.bits.specs.Table.{tabulate}
 use Rattle.reading.specs.Reading.{ordinary}
 use Rattle.tape.specs.Tape.{tapeOf, readingIn, howMany, talliedBy}
-use Rattle.tape.specs.Document.{kindOf}
+use Rattle.block.specs.Mark.{kindOf}
 use Rattle.tape.proofs.Tape.{many-same}
 use Rattle.tally.specs.Totals.{sumOf}
 use Rattle.tally.specs.Reel.{kindOnTape}

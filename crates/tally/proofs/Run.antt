@@ -15,11 +15,10 @@ use lib.ListN.{length}
 use Rattle.bits.proofs.Tests.{either-way}
 use Rattle.reel.specs.Header.{mostSuperframes}
 use Rattle.reading.specs.Reading.{ordinary}
-use Rattle.tape.specs.Tape.{synced, noBlocks, refusedCounts, countedWith, syncNumber, countsOf}
+use Rattle.tape.specs.Tape.{synced, kindIn, blocksOf, noBlocks, refusedCounts, countedWith, syncNumber, countsOf}
 use Rattle.tally.specs.Totals.{grown, sumOf, noTotals, withCounted, addedTo, stepOf, listedWith, stepped, totalsFrom, totalsOf}
 use Rattle.tally.specs.Reel.{isLost, syncIn, blocksWith, total, counted, Superframes}
 use Rattle.tape.proofs.Wrong.{wrong-most}
-use Rattle.tape.proofs.Carried.{blocks-read}
 use Rattle.tape.specs.declared.blocks.Counted.{Counted}
 use Rattle.tally.specs.declared.Totals.{Totals}
 use Rattle.tally.proofs.Order.{tallied-sum}
@@ -70,11 +69,11 @@ withOne : (t : Totals) (sf : List ℕ) → length sf ≡ 5120 →
       mended = grown (t .mended) (blocksWith 1 sf);
       bad = grown (t .bad) (blocksWith 2 sf);
     }
-unfolding addedTo withCounted countsOf syncNumber countedWith refusedCounts isLost syncIn blocksWith noBlocks sumOf
+unfolding addedTo withCounted countsOf syncNumber countedWith refusedCounts isLost syncIn blocksWith blocksOf kindIn noBlocks sumOf
 withOne t sf l =
     rw (eq-eqb (length sf) 5120 l)
     (either-way (synced sf)
-    (λ e. rw (e, blocks-read ordinary sf)
+    (λ e. rw e
     (same-totals _ _ _ _ _ _ _ _ _ _ _ _ refl refl refl
     (ap (grown (t .clean)) (tallied-sum 0 sf))
     (ap (grown (t .mended)) (tallied-sum 1 sf))

@@ -12,7 +12,7 @@ use Rattle.bits.proofs.Tests.{either-way}
 use Rattle.block.specs.Read.{Said, clean, mended, bad}
 use Rattle.reading.specs.Reading.{ordinary}
 use Rattle.tape.specs.Tape.{synced, readings, howMany}
-use Rattle.tape.specs.Document.{kindOf}
+use Rattle.block.specs.Mark.{kindOf}
 use Rattle.tally.specs.Reel.{isLost, kindOnTape, blocksWith}
 
 -- 1 where the kind is k

@@ -14,8 +14,8 @@ use lib.Dec.{eqb}
 use lib.ListN.{length, getD}
 use Rattle.reading.specs.Reading.{ordinary}
 use Rattle.block.specs.Read.{bad}
+use Rattle.block.specs.Mark.{kindOf}
 use Rattle.tape.specs.Tape.{synced, wrongBits, readings, howMany}
-use Rattle.tape.specs.Document.{kindOf}
 use Rattle.tally.specs.declared.Totals.{Totals}
 
 unfoldable pub isLost : List ℕ → ℕ

@@ -3,7 +3,6 @@
 --     channelOf q side              the channel of programme q, side 1 the left and 2 the right: "channels of programmes 1 to 16 in order, left first"
 --     Carries f b q frame place     "Block b of A carries stereo programmes 2b-1 and 2b; block b of B carries 2b+7 and 2b+8": block b of main frame `frame` of
 --                                   the 128 carries programme q in frame number f of the 64, as the first (place 1) or the second (place 2) of its two
---     kindOf r                      what a reading is: 0 clean, 1 mended, with whatever number of places, 2 bad
 --     wrongBit sf f k               bit k of the sync of main frame f is not that of its letter's word; f and k count from 0
 use Prim.Native.Nat.{ℕ, _+_, _-_, _*_}
 use mathlib.Core.Path.{_≡_}
@@ -12,7 +11,6 @@ use mathlib.Core.List.{List}
 use lib.Dec.{eqb}
 use lib.ListN.{getD}
 use Rattle.bits.specs.Bits.{bitAt}
-use Rattle.block.specs.Read.{Said, clean, mended, bad}
 use Rattle.frame.specs.Frame.{syncWord}
 use Rattle.tape.specs.Tape.{frameAt, letterOf}
 
@@ -21,11 +19,6 @@ entry l n d = getD l (n - 1) d
 
 abbrev pub channelOf : ℕ → ℕ → ℕ
 channelOf q side = 2 * (q - 1) + side
-
-unfoldable pub kindOf : Said → ℕ
-kindOf clean = 0
-kindOf (mended n) = 1
-kindOf bad = 2
 
 unfoldable pub wrongBit : List ℕ → ℕ → ℕ → Bool
 wrongBit sf f k = cond (eqb (bitAt (frameAt sf f) k) (getD (syncWord (letterOf f)) k 0)) false true
