@@ -11,9 +11,10 @@ use crate::reel;
 use crate::sample;
 use crate::scale::{self, Extra, Near};
 use crate::service::{Heard, Service, Sync, CHANNELS, CHARACTERS};
-use crate::superframe::{self, State};
+use crate::superframe::{self, State, PROGRAMMES};
 use crate::taking::{self, Lengths, MOST_LENT};
 use crate::text;
+use crate::totals::{Numbers, Totals};
 use crate::word::Reading;
 use std::str::Split;
 
@@ -121,7 +122,7 @@ pub fn answer(line: &str) -> Option<String> {
         "run" => one(reel::run_count(words.number(0, MOST_RUN)? as u64)),
         "part" => {
             let length = words.number(0, MOST_RUN)? as u64;
-            let k = words.number(0, i64::from(u32::MAX))? as u64;
+            let k = u64::from(words.large()?);
             match reel::start_of(length, k) {
                 Ok(start) => format!("0 {} {start}", superframe::BYTES),
                 Err(refusal) => format!("{} 0", refusal.number()),
@@ -130,10 +131,11 @@ pub fn answer(line: &str) -> Option<String> {
         "fresh" => format!("0 {}", state_text(&State::fresh())),
         "lose" => {
             let state = words.state()?;
-            match state.lose() {
-                Ok(next) => format!("0 {}", state_text(&next)),
-                Err(refusal) => format!("{} {}", refusal.number(), state_text(&state)),
-            }
+            next_text(&state, state.lose())
+        }
+        "reset" => {
+            let state = words.state()?;
+            next_text(&state, state.reset())
         }
         "service" => {
             let state = words.state()?;
@@ -151,7 +153,7 @@ pub fn answer(line: &str) -> Option<String> {
                 samples: words.number(0, MOST_LENT as i64)? as usize,
                 marks: words.number(0, MOST_LENT as i64)? as usize,
             };
-            let seed = words.number(0, i64::from(u32::MAX))? as u32;
+            let seed = words.large()?;
             let recipe = Recipe::of(seed, words.bytes_of_length()?);
             let state = words.state()?;
             taking::answer(radius, &state, lengths, &recipe).ok()?
@@ -169,6 +171,14 @@ fn one<T: ToString>(result: Result<T, Refusal>) -> String {
     match result {
         Ok(value) => format!("0 {}", value.to_string()),
         Err(refusal) => refusal.number().to_string(),
+    }
+}
+
+/// 0 and the next state, or the number and the given one.
+fn next_text(given: &State, next: Result<State, Refusal>) -> String {
+    match next {
+        Ok(next) => format!("0 {}", state_text(&next)),
+        Err(refusal) => format!("{} {}", refusal.number(), state_text(given)),
     }
 }
 
@@ -203,7 +213,22 @@ pub fn state_text(state: &State) -> String {
         group,
         labels.as_flattened(),
     ];
-    text::spaced(fields.map(text::hex))
+    let Totals {
+        taken,
+        lost,
+        clean,
+        mended,
+        bad,
+    } = &state.totals;
+    let numbers = |all: &Numbers| text::hex(&all.map(u32::to_be_bytes).concat());
+    let totals = [
+        taken.to_string(),
+        lost.to_string(),
+        numbers(clean),
+        numbers(mended),
+        numbers(bad),
+    ];
+    text::spaced(fields.map(text::hex).into_iter().chain(totals))
 }
 
 fn near_text(near: Near) -> String {
@@ -244,6 +269,11 @@ impl<'a> Words<'a> {
     /// From 0 to 255.
     fn small(&mut self) -> Option<u8> {
         self.number(0, 255).map(|n| n as u8)
+    }
+
+    /// From 0 to 4294967295.
+    fn large(&mut self) -> Option<u32> {
+        self.number(0, i64::from(u32::MAX)).map(|n| n as u32)
     }
 
     /// Of 16 bits.
@@ -309,11 +339,30 @@ impl<'a> Words<'a> {
             group,
             labels,
         };
+        let totals = Totals {
+            taken: self.large()?,
+            lost: self.large()?,
+            clean: self.numbers()?,
+            mended: self.numbers()?,
+            bad: self.numbers()?,
+        };
         Some(State {
             now,
             after,
             service,
+            totals,
         })
+    }
+
+    /// One number of 32 bits for each programme, the higher byte first.
+    fn numbers(&mut self) -> Option<Numbers> {
+        let all: [u8; 4 * PROGRAMMES] = self.bytes_of_length()?;
+        let number = |p: usize| {
+            all[4 * p..][..4]
+                .iter()
+                .fold(0, |sum, byte| sum << 8 | u32::from(*byte))
+        };
+        Some(std::array::from_fn(number))
     }
 
     /// `FACTOR START COUNT`: the sum of the answers for COUNT numbers from START on.

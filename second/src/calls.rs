@@ -5,6 +5,7 @@ mod random;
 mod scales;
 mod superframes;
 mod systematic;
+mod totals;
 
 use crate::answer::state_text;
 use crate::bits::Bit;
@@ -13,8 +14,9 @@ use crate::radius;
 use crate::random::Random;
 use crate::scale::{self, COPIES};
 use crate::service::{Labels, Service, CHANNELS, CHARACTERS};
-use crate::superframe::State;
+use crate::superframe::{State, MISSING};
 use crate::text;
+use crate::totals::MOST;
 pub use random::random;
 pub use systematic::all;
 
@@ -56,7 +58,8 @@ fn part_way(random: &mut Random, one: usize, places: &[usize], count: usize) -> 
 }
 
 /// A state at this position and stage; `zero` leaves the open group's bytes 0. Places that carry nothing
-/// hold 0 every second time; the last four of the group and the last of each label never carry anything.
+/// hold 0 every second time; the last four of the group and the last of each label never carry anything. The totals are
+/// right and not full.
 fn state(random: &mut Random, position: u8, stage: u8, zero: bool) -> State {
     let factors = |random: &mut Random| std::array::from_fn(|_| random.below(9) as u8);
     let tidy = random.percent(50);
@@ -85,6 +88,10 @@ fn state(random: &mut Random, position: u8, stage: u8, zero: bool) -> State {
             group,
             labels,
         },
+        totals: {
+            let given = random.below(MOST);
+            totals::of_given(random, given)
+        },
     }
 }
 
@@ -100,15 +107,23 @@ fn drawn_radius(random: &mut Random) -> u8 {
 const NO_RADII: [u8; 5] = [0, 1, 4, 5, 255];
 
 /// How many fields of a state have a range.
-const FIELDS: u64 = 4;
+const FIELDS: u64 = 9;
 
-/// Puts a number that is out of range into one of those fields; any field past them leaves the state alone.
+/// Puts a number that is out of range into one of those fields; any field past them leaves the state alone. A total is too
+/// large by as much as the number is out of the range of the others.
 fn spoil(state: &mut State, field: u64, channel: usize, wrong: u8) {
+    let totals = &mut state.totals;
+    let (programme, more) = (channel / 2, u32::from(wrong - MISSING));
     match field {
         0 => state.now[channel] = wrong,
         1 => state.after[channel] = wrong,
         2 => state.service.position = wrong,
         3 => state.service.stage = wrong,
+        4 => totals.taken += more,
+        5 => totals.lost = MOST as u32 - totals.taken + more,
+        6 => totals.clean[programme] += more,
+        7 => totals.mended[programme] += more,
+        8 => totals.bad[programme] += more,
         _ => {}
     }
 }

@@ -9,6 +9,7 @@ use crate::listing::Tally;
 use crate::radius;
 use crate::reel::{self, End};
 use crate::superframe::{State, Taken, FRAMES, PROGRAMMES};
+use crate::totals::Totals;
 use crate::transcript;
 use names::Names;
 use std::ffi::OsString;
@@ -79,7 +80,7 @@ pub fn write(input: impl Read, order: &Order) -> io::Result<End> {
     if end == End::Refused {
         fs::remove_dir_all(&order.folder)?;
     } else {
-        folder.finish(end, order)?;
+        folder.finish(end, order, &state.totals)?;
     }
     Ok(end)
 }
@@ -94,6 +95,7 @@ struct Folder {
     words: Buffered,
     about: Buffered,
     listing: Buffered,
+    totals: Buffered,
 }
 
 impl Folder {
@@ -108,6 +110,7 @@ impl Folder {
             words: create(folder, "words.txt")?,
             about: create(folder, "about.txt")?,
             listing: create(folder, "listing.txt")?,
+            totals: create(folder, "totals.txt")?,
         })
     }
 
@@ -130,11 +133,12 @@ impl Folder {
         writeln!(self.words, "lost")
     }
 
-    fn finish(mut self, end: End, order: &Order) -> io::Result<()> {
+    fn finish(mut self, end: End, order: &Order, totals: &Totals) -> io::Result<()> {
         for programme in self.programmes {
             programme.finish()?;
         }
         self.tally.write(end, &mut self.listing)?;
+        totals.write(end, &mut self.totals)?;
         let Order {
             name,
             commit,
@@ -150,7 +154,13 @@ impl Folder {
                 .write_all(&[word.as_bytes(), b" ", value, b"\n"].concat())?;
         }
         // Dropped, a buffer would not say that its file could not be written.
-        for mut text in [self.names, self.words, self.about, self.listing] {
+        for mut text in [
+            self.names,
+            self.words,
+            self.about,
+            self.listing,
+            self.totals,
+        ] {
             text.flush()?;
         }
         Ok(())

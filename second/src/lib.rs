@@ -25,5 +25,6 @@ pub mod source;
 pub mod superframe;
 pub mod taking;
 pub mod text;
+pub mod totals;
 pub mod transcript;
 pub mod word;

@@ -45,17 +45,14 @@ impl Tally {
     }
 
     pub fn write(&self, end: End, output: &mut impl Write) -> io::Result<()> {
-        let end = match end {
-            End::Refused => return writeln!(output, "refused 8"),
-            End::Ok => "ok",
-            End::Short => "short",
-        };
-        writeln!(output, "superframes {}", self.superframes)?;
-        writeln!(output, "lost {}", self.lost)?;
-        writeln!(output, "sync {}", self.wrong)?;
-        writeln!(output, "clean {}", self.total.clean)?;
-        writeln!(output, "mended {}", self.total.mended)?;
-        writeln!(output, "bad {}", self.total.bad)?;
-        writeln!(output, "end {end}")
+        if end != End::Refused {
+            writeln!(output, "superframes {}", self.superframes)?;
+            writeln!(output, "lost {}", self.lost)?;
+            writeln!(output, "sync {}", self.wrong)?;
+            writeln!(output, "clean {}", self.total.clean)?;
+            writeln!(output, "mended {}", self.total.mended)?;
+            writeln!(output, "bad {}", self.total.bad)?;
+        }
+        end.write(output)
     }
 }

@@ -1,6 +1,6 @@
-//! The command line: `second make | listing | transcript | hand-on | calls | answer | check`.
+//! The command line: `second make | listing | totals | transcript | hand-on | calls | answer | check`.
 
-use second::{calls, check, damage, hand_on, listing, make, radius, transcript};
+use second::{calls, check, damage, hand_on, listing, make, radius, totals, transcript};
 use std::ffi::OsString;
 use std::io::{self, BufWriter, Write};
 use std::process::ExitCode;
@@ -8,6 +8,7 @@ use std::process::ExitCode;
 const USAGE: &str = "\
 second make SEED N [damage ...]   write a reel of N superframes
 second listing                    read a reel, write its listing
+second totals [RADIUS]            read a reel, write the totals of each programme
 second transcript [RADIUS]        read a reel, write every answer of the reader
 second hand-on FOLDER [NAME COMMIT [RADIUS]]
                                   read a reel, write the folder for the restorers
@@ -67,6 +68,8 @@ fn run(arguments: &[String], output: &mut impl Write) -> Result<ExitCode, Fault>
             make::make(&order, output)?;
         }
         ["listing"] => listing::list(io::stdin().lock(), output)?,
+        ["totals"] => totals::write(radius::ORDINARY, io::stdin().lock(), output)?,
+        ["totals", word] => totals::write(radius::parse(word)?, io::stdin().lock(), output)?,
         ["transcript"] => transcript::write(radius::ORDINARY, io::stdin().lock(), output)?,
         ["transcript", word] => {
             transcript::write(radius::parse(word)?, io::stdin().lock(), output)?
@@ -77,7 +80,7 @@ fn run(arguments: &[String], output: &mut impl Write) -> Result<ExitCode, Fault>
             let order = hand_on::Order::parse(&words);
             let order = order.ok_or(format!("which folder?\n{USAGE}"))??;
             let end = hand_on::write(io::stdin().lock(), &order)?;
-            transcript::write_end(end, output)?;
+            end.write(output)?;
         }
         ["calls", ref which @ ..] if !which.is_empty() => {
             for line in call_lines(which)? {

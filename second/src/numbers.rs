@@ -1,4 +1,4 @@
-//! The numbers given (document 01, "Numbers given"). Number 4 is not used.
+//! The numbers given (document 01, "Numbers given"; document 02, P7). Number 4 is not used.
 
 #[derive(Clone, Copy, Debug, PartialEq, Eq)]
 pub enum Refusal {
@@ -16,6 +16,8 @@ pub enum Refusal {
     ServiceSync = 7,
     /// The header is wrong or short.
     Header = 8,
+    /// The totals have as many superframes as they can.
+    Full = 9,
 }
 
 impl Refusal {

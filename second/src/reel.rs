@@ -2,7 +2,7 @@
 
 use crate::numbers::Refusal;
 use crate::superframe;
-use std::io::{self, Read};
+use std::io::{self, Read, Write};
 
 pub const HEADER: usize = 16;
 pub const MOST: u64 = 1_000_000;
@@ -57,6 +57,17 @@ pub enum End {
     Short,
     /// The header is wrong or short.
     Refused,
+}
+
+impl End {
+    /// The last line of what is said of a reel.
+    pub fn write(self, output: &mut impl Write) -> io::Result<()> {
+        match self {
+            End::Ok => writeln!(output, "end ok"),
+            End::Short => writeln!(output, "end short"),
+            End::Refused => writeln!(output, "refused 8"),
+        }
+    }
 }
 
 /// Hands each whole superframe of the reel on, one after the other, and stops after the promised count.

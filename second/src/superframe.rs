@@ -1,4 +1,4 @@
-//! The superframe and the reader's state (document 01, "Superframe"; document 02, P9).
+//! The superframe and the reader's state (document 01, "Superframe"; document 02, P7 and P9).
 
 use crate::bits::{self, Bit};
 use crate::block::{self, Block};
@@ -8,6 +8,7 @@ use crate::radius;
 use crate::sample;
 use crate::scale::{self, Extra};
 use crate::service::{Heard, Service, CHANNELS};
+use crate::totals::Totals;
 use crate::word::Reading;
 
 pub const FRAMES: usize = 64;
@@ -42,6 +43,7 @@ pub struct State {
     /// And for the one after it.
     pub after: [u8; CHANNELS],
     pub service: Service,
+    pub totals: Totals,
 }
 
 #[derive(Clone, Copy, Debug, Default, PartialEq, Eq)]
@@ -104,12 +106,15 @@ impl State {
             now: [MISSING; CHANNELS],
             after: [MISSING; CHANNELS],
             service: Service::searching(),
+            totals: Totals::default(),
         }
     }
 
     fn in_range(&self) -> bool {
-        let factors = self.now.iter().chain(&self.after);
-        factors.into_iter().all(|factor| *factor <= MISSING) && self.service.in_range()
+        let mut factors = self.now.iter().chain(&self.after);
+        factors.all(|factor| *factor <= MISSING)
+            && self.service.in_range()
+            && self.totals.in_range()
     }
 
     /// The state after one lost superframe.
@@ -117,14 +122,29 @@ impl State {
         if !self.in_range() {
             return Err(Refusal::Range);
         }
+        if self.totals.full() {
+            return Err(Refusal::Full);
+        }
         Ok(State {
             now: self.after,
             after: [MISSING; CHANNELS],
             service: Service::searching(),
+            totals: self.totals.lose(),
         })
     }
 
-    /// The service bits of one superframe by themselves; the factors stay as given.
+    /// A new history starts; all but the totals stays as given.
+    pub fn reset(&self) -> Result<State, Refusal> {
+        if !self.in_range() {
+            return Err(Refusal::Range);
+        }
+        Ok(State {
+            totals: Totals::default(),
+            ..self.clone()
+        })
+    }
+
+    /// The service bits of one superframe by themselves; the factors and the totals stay as given.
     pub fn take_service(&self, six: &[u8; 6], sync: &[Bit]) -> Result<(Heard, State), Refusal> {
         if !self.in_range() || !bits::all_in_range(sync) {
             return Err(Refusal::Range);
@@ -142,9 +162,12 @@ impl State {
         if bytes.len() != BYTES {
             return (Err(Refusal::Length), self.clone());
         }
+        if !radius::in_range(radius) {
+            return (Err(Refusal::Range), self.clone());
+        }
         let lost = match self.lose() {
-            Ok(state) if radius::in_range(radius) => state,
-            _ => return (Err(Refusal::Range), self.clone()),
+            Ok(state) => state,
+            Err(refusal) => return (Err(refusal), self.clone()),
         };
         match Received::read(bytes).and_then(|received| self.hear(radius, &received)) {
             Ok((taken, state)) => (Ok(taken), state),
@@ -210,6 +233,7 @@ impl State {
             now: self.after,
             after: read,
             service,
+            totals: self.totals.take(&counts),
         };
         let taken = Taken {
             samples,

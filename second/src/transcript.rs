@@ -1,6 +1,6 @@
 //! The transcript: every answer of the reader for each superframe of a reel, its blocks read at a radius.
 
-use crate::reel::{self, End};
+use crate::reel;
 use crate::scale::Extra;
 use crate::service::Sync;
 use crate::superframe::{State, Taken};
@@ -25,15 +25,7 @@ pub fn write(radius: u8, input: impl Read, output: &mut impl Write) -> io::Resul
             }
         }
     })?;
-    write_end(end, output)
-}
-
-pub fn write_end(end: End, output: &mut impl Write) -> io::Result<()> {
-    match end {
-        End::Ok => writeln!(output, "end ok"),
-        End::Short => writeln!(output, "end short"),
-        End::Refused => writeln!(output, "refused 8"),
-    }
+    end.write(output)
 }
 
 fn write_taken(taken: &Taken, output: &mut impl Write) -> io::Result<()> {

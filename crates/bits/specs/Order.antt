@@ -1,12 +1,13 @@
--- The order of refusals (document 01, "Numbers given": "Order 1, 2, 3"), said once for any function that gives more than one of these numbers.
---     Ordered one two three n     n is the number answered where the faults are: `one` a wrong length, `two` a value out of its range, `three` a wrong sync.
---                                 A wrong length gives 1, whatever else is wrong; a value out of range 2, whatever the sync; a wrong sync 3; no fault, 0.
---                                 A fault that the function cannot meet is ⊥
+-- The order of refusals (document 01, "Numbers given": "Order 1, 2, 3"), said once for any function that refuses with more than one number: each fault with its
+-- number, in the order in which they are looked for. Of a superframe that is taken: Refused length 1 (Refused range 2 (Refused full 9 (Refused sync 3 Accepted))).
+--     Refused fault k rest n      n is the number answered: k where the fault is there, whatever else is wrong; without it, what the rest of the order says
+--     Accepted n                  the end of an order: no fault, 0
 use mathlib.Core.Path.{_≡_}
 use Prim.Native.Nat.{ℕ}
 
-pub record Ordered (one two three : Type 0) (n : ℕ) : Type 0 where
-  pub first : one → n ≡ 1
-  pub second : (one → ⊥) → two → n ≡ 2
-  pub third : (one → ⊥) → (two → ⊥) → three → n ≡ 3
-  pub none : (one → ⊥) → (two → ⊥) → (three → ⊥) → n ≡ 0
+pub record Refused (fault : Type 0) (k : ℕ) (rest : ℕ → Type 0) (n : ℕ) : Type 0 where
+  pub there : fault → n ≡ k
+  pub away : (fault → ⊥) → rest n
+
+abbrev pub Accepted : ℕ → Type 0
+Accepted n = n ≡ 0

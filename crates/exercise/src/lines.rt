@@ -16,7 +16,7 @@ use crate::words::Name;
 fn name_of(line: &[u8]) -> Name {
     words::named(
         line,
-        b" bwrite bread bcodes fwrite fread code sample codes samples factor swrite sread sextra pread pwrite name header run part fresh lose service take",
+        b" bwrite bread bcodes fwrite fread code sample codes samples factor swrite sread sextra pread pwrite name header run part fresh lose reset service take",
     )
 }
 
@@ -50,8 +50,9 @@ fn other_called(number: usize, line: &[u8], at: usize, page: Page) -> Page {
         18 => reels::part(line, at, page),
         19 => states::fresh(line, at, page),
         20 => states::lose(line, at, page),
-        21 => states::service(line, at, page),
-        22 => takes::take(line, at, page),
+        21 => states::reset(line, at, page),
+        22 => states::service(line, at, page),
+        23 => takes::take(line, at, page),
         _ => page,
     }
 }

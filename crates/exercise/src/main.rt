@@ -11,9 +11,10 @@ mod reels; // reels.rt: header, run, part
 mod samples; // samples.rt: code, sample, codes, samples, factor
 mod scales; // scales.rt: swrite, sread, sextra
 mod signs; // signs.rt: numbers with a sign, and numbers without
-mod states; // states.rt: fresh, lose, service
+mod states; // states.rt: fresh, lose, reset, service
 mod sums; // sums.rt: what stands for a long list in an answer
 mod takes; // takes.rt: take
+mod totals; // totals.rt: the words of running totals
 mod words; // words.rt: the words of a line
 
 // What is held of the line that is being read.
@@ -86,7 +87,7 @@ fn take(piece: &[u8], line: &mut [u8], before: Held) -> Held {
 
 // A proved loop has to end, and nothing says that the input does: so the turns are counted, from a number that no run uses up.
 fn main() {
-    let mut line = [0u8; 776];
+    let mut line = [0u8; 1185];
     let mut held = Held {
         count: 0,
         spilled: false,

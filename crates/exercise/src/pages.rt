@@ -1,7 +1,7 @@
 // A line and its answer, as text. A page goes in by value and comes back with more on it; what does not fit is left out, and the count is then past
 // the page's end, as in `text`.
 pub(crate) struct Page {
-    pub(crate) bytes: [u8; 2048],
+    pub(crate) bytes: [u8; 2816],
     // how many of them are text; more than there are where something was left out
     pub(crate) count: usize,
 }
@@ -9,7 +9,7 @@ pub(crate) struct Page {
 impl Page {
     pub(crate) fn blank() -> Self {
         Page {
-            bytes: [0u8; 2048],
+            bytes: [0u8; 2816],
             count: 0,
         }
     }

@@ -1,10 +1,11 @@
 // The calls on the reader's state.
 use crate::pages::Page;
+use crate::totals;
 use crate::words;
 use crate::words::Small;
 use superframe::State;
 
-// A state, and the place behind its six words.
+// A state, and the place behind its eleven words.
 pub(crate) struct Read {
     pub(crate) state: State,
     pub(crate) next: usize,
@@ -38,10 +39,12 @@ pub(crate) fn read_state(line: &[u8], at: usize) -> Read {
     let stage = read_byte(line, position.next);
     let of_group = read_channels(line, stage.next);
     let mut labels = [0u8; 256];
-    let place = words::read_hex(line, of_group.next, &mut labels);
+    let behind = words::read_hex(line, of_group.next, &mut labels);
+    let counted = totals::read(line, behind);
     let next = of_next.bytes;
     let after = of_after.bytes;
     let group = of_group.bytes;
+    let totals = counted.totals;
     let state = State {
         next,
         after,
@@ -49,8 +52,12 @@ pub(crate) fn read_state(line: &[u8], at: usize) -> Read {
         group,
         stage: stage.value,
         labels,
+        totals,
     };
-    Read { state, next: place }
+    Read {
+        state,
+        next: counted.next,
+    }
 }
 
 pub(crate) fn put_channels(page: Page, bytes: &[u8; 32]) -> Page {
@@ -76,7 +83,8 @@ pub(crate) fn put_state(mut page: Page, state: State) -> Page {
     page = put_byte(page, state.position);
     page = put_byte(page, state.stage);
     page = put_channels(page, &group);
-    put_labels(page, &labels)
+    page = put_labels(page, &labels);
+    totals::put(page, state.totals)
 }
 
 pub(crate) fn fresh(line: &[u8], at: usize, mut page: Page) -> Page {
@@ -96,6 +104,18 @@ pub(crate) fn lose(line: &[u8], at: usize, mut page: Page) -> Page {
     let lost = state.lose();
     let next = lost.next;
     page = page.number(lost.number);
+    put_state(page, next)
+}
+
+pub(crate) fn reset(line: &[u8], at: usize, mut page: Page) -> Page {
+    let read = read_state(line, at);
+    if !words::ended(line, read.next) {
+        return page;
+    }
+    let state = read.state;
+    let anew = state.reset();
+    let next = anew.next;
+    page = page.number(anew.number);
     put_state(page, next)
 }
 

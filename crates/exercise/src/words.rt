@@ -10,6 +10,11 @@ pub(crate) struct Number {
     pub(crate) next: usize,
 }
 
+pub(crate) struct Large {
+    pub(crate) value: u32,
+    pub(crate) next: usize,
+}
+
 pub(crate) struct Small {
     pub(crate) value: u8,
     pub(crate) next: usize,
@@ -169,6 +174,14 @@ pub(crate) fn read_number(line: &[u8], at: usize, most: u64) -> Number
     Number {
         value: 0,
         next: NONE,
+    }
+}
+
+pub(crate) fn read_large(line: &[u8], at: usize) -> Large {
+    let read = read_number(line, at, MOST);
+    Large {
+        value: read.value as u32,
+        next: read.next,
     }
 }
 

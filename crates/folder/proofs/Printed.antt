@@ -1,7 +1,6 @@
 -- The files of the folder by their names, in the order of their numbers: `names-printed`. Assumes nothing.
 use mathlib.Core.Path.{_≡_, refl}
 use mathlib.Core.List.{List, [], _∷_, map}
-use Prim.Native.Nat.{ℕ}
 use Prim.Native.String.{String}
 use Rattle.bits.specs.Letters.{letters}
 use Rattle.bits.specs.Table.{tabulate}
@@ -22,8 +21,9 @@ printed =
     ∷ "09.labels.txt" ∷ "10.labels.txt" ∷ "11.labels.txt" ∷ "12.labels.txt"
     ∷ "13.labels.txt" ∷ "14.labels.txt" ∷ "15.labels.txt" ∷ "16.labels.txt"
     ∷ "names.txt" ∷ "words.txt" ∷ "about.txt" ∷ "listing.txt"
+    ∷ "totals.txt"
     ∷ []
 
-pub names-printed : tabulate 52 fileName ≡ map letters printed
+pub names-printed : tabulate 53 fileName ≡ map letters printed
 unfolding tabulate fileName trackName otherName letters
 names-printed = refl

@@ -1,4 +1,4 @@
-// The folder for the restorers (docs/HAND-ON.md): the names of its 52 files, which have numbers from 0 on, and the lines of `about.txt`.
+// The folder for the restorers (docs/HAND-ON.md): the names of its 53 files, which have numbers from 0 on, and the lines of `about.txt`.
 ghost use mathlib.Core.Path.{_≡_};
 ghost use Prim.Native.Nat.{_<_};
 ghost use Rattle.text.specs.Page.{page, putText};
@@ -28,10 +28,13 @@ fn put_other(out: &mut [u8], to: usize, file: u8) -> usize
     if file == 50 {
         return text::put_all(out, to, b"about.txt");
     }
-    text::put_all(out, to, b"listing.txt")
+    if file == 51 {
+        return text::put_all(out, to, b"listing.txt");
+    }
+    text::put_all(out, to, b"totals.txt")
 }
 
-// The name of a file: 0 to 15 are the sound of programmes 1 to 16, 16 to 31 their marks, 32 to 47 their labels, 48 to 51 the files beside.
+// The name of a file: 0 to 15 are the sound of programmes 1 to 16, 16 to 31 their marks, 32 to 47 their labels, 48 to 52 the files beside.
 pub fn put_name(out: &mut [u8], to: usize, file: u8) -> usize
     ensures { λ r. ⌜ page (now (out .exit)) r ≡ putText (page (now (out .entry)) to) (fileName file) ⌝ }
 {

@@ -10,8 +10,8 @@ use native.Mathlib.Omega.{arith}
 use borrow.Author.Tests.{leb-true, leb-false}
 use lib.Dec.{eqb, leb}
 use lib.ListN.{length}
-use Rattle.bits.specs.Order.{Ordered}
-use Rattle.bits.proofs.Order.{Tells, tells-nothing, tells-length, in-order}
+use Rattle.bits.specs.Order.{Refused, Accepted}
+use Rattle.bits.proofs.Order.{Tells, tells-length, tested}
 use Rattle.frame.specs.Read.{wrongSync, mostWrong, serviceRead, blocksIn, nothing, found, readFrame}
 use Rattle.frame.specs.declared.FrameRead.{FrameRead}
 use Rattle.frame.specs.declared.Letter.{Letter}
@@ -30,8 +30,8 @@ module _ (letter : Letter) (bytes : List ℕ) where
         away = λ e many. let few = leb-true (wrongSync letter bytes) mostWrong e in omega (arith, few, many);
       }
 
-  pub read-order : Ordered (length bytes ≢ 40) ⊥ (3 ≤ wrongSync letter bytes) (readFrame letter bytes .number)
+  pub read-order : Refused (length bytes ≢ 40) 1 (Refused (3 ≤ wrongSync letter bytes) 3 Accepted) (readFrame letter bytes .number)
   unfolding readFrame nothing
   read-order =
       rw (numbered (eqb (length bytes) 40) (leb (wrongSync letter bytes) mostWrong) (found (wrongSync letter bytes) (serviceRead letter bytes) (blocksIn bytes)) (nothing 3) (nothing 1))
-      (in-order (eqb (length bytes) 40) true (leb (wrongSync letter bytes) mostWrong) (tells-length (length bytes) 40) tells-nothing tells-sync)
+      (tested _ _ (tells-length (length bytes) 40) (tested _ _ tells-sync refl))

@@ -1,4 +1,4 @@
-// The 52 files of the folder by their numbers (`folder::put_name`), each at its descriptor. A file that fails is told with C's number of the error.
+// The 53 files of the folder by their numbers (`folder::put_name`), each at its descriptor. A file that fails is told with C's number of the error.
 pub struct Fault {
     pub file: u8,
     // 0: nothing failed
@@ -6,7 +6,7 @@ pub struct Fault {
 }
 
 pub struct Made {
-    pub fds: [i32; 52],
+    pub fds: [i32; 53],
     pub fault: Fault,
 }
 
@@ -68,9 +68,9 @@ fn start(fd: i32, file: u8, superframes: u32) -> u32 {
 
 // Makes all files, those of sound and marks with a header for as many superframes as are promised.
 pub fn make_all(promised: u32) -> Made {
-    let mut fds = [0i32; 52];
+    let mut fds = [0i32; 53];
     let mut file: u8 = 0;
-    while file < 52 {
+    while file < 53 {
         let fd = make(file);
         let error = start(fd, file, promised);
         if error != 0 {
@@ -86,8 +86,8 @@ pub fn make_all(promised: u32) -> Made {
 }
 
 // Writes the bytes of a page before a place at the end of a file.
-pub fn write(fds: [i32; 52], file: u8, page: &[u8], end: usize) -> Fault {
-    if 51 < file {
+pub fn write(fds: [i32; 53], file: u8, page: &[u8], end: usize) -> Fault {
+    if 52 < file {
         return Fault {
             file,
             error: libc::EBADF as u32,
@@ -109,7 +109,7 @@ fn put_right_one(fd: i32, file: u8, superframes: u32) -> u32 {
 }
 
 // Puts the headers right, where there were other superframes than promised.
-pub fn put_right(fds: [i32; 52], superframes: u32) -> Fault {
+pub fn put_right(fds: [i32; 53], superframes: u32) -> Fault {
     let mut file: u8 = 0;
     while file < 32 {
         let error = put_right_one(fds[file as usize], file, superframes);
@@ -132,9 +132,9 @@ fn settle_one(fd: i32) -> u32 {
 }
 
 // Waits until every byte is on the disk.
-pub fn settle(fds: [i32; 52]) -> Fault {
+pub fn settle(fds: [i32; 53]) -> Fault {
     let mut file: u8 = 0;
-    while file < 52 {
+    while file < 53 {
         let error = settle_one(fds[file as usize]);
         if error != 0 {
             return Fault { file, error };

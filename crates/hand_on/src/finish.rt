@@ -4,9 +4,10 @@ use crate::files::Fault;
 use crate::going::Going;
 use crate::stretch;
 use reel::HeaderRead;
+use running::Running;
 use tally::Totals;
 
-fn write_placed(fds: [i32; 52], file: u8, page: &[u8], number: u8, end: usize) -> Fault {
+fn write_placed(fds: [i32; 53], file: u8, page: &[u8], number: u8, end: usize) -> Fault {
     if number != 0 {
         return Fault {
             file,
@@ -16,14 +17,21 @@ fn write_placed(fds: [i32; 52], file: u8, page: &[u8], number: u8, end: usize) -
     files::write(fds, file, page, end)
 }
 
-fn write_listing(fds: [i32; 52], header: HeaderRead, totals: Totals) -> Fault {
+fn write_listing(fds: [i32; 53], header: HeaderRead, totals: Totals) -> Fault {
     let mut out = [0u8; 192];
     let placed = listing_text::put_listing(&mut out, 0, header, totals);
     write_placed(fds, 51, &out, placed.number, placed.end)
 }
 
+// Their text has at most 1,057 characters (`totals-whole` in totals_text).
+fn write_totals(fds: [i32; 53], header: HeaderRead, totals: Running) -> Fault {
+    let mut out = [0u8; 1088];
+    let placed = totals_text::put_totals(&mut out, 0, header, totals);
+    write_placed(fds, 52, &out, placed.number, placed.end)
+}
+
 // The name and the commit are the arguments behind the first.
-fn write_about(fds: [i32; 52], radius: u8) -> Fault {
+fn write_about(fds: [i32; 53], radius: u8) -> Fault {
     let mut reel = io::buffer();
     let length = os::arg(2, &mut reel);
     let mut commit = [0u8; 128];
@@ -34,7 +42,7 @@ fn write_about(fds: [i32; 52], radius: u8) -> Fault {
 }
 
 // The headers say what was promised until it turns out otherwise.
-fn put_right(fds: [i32; 52], promised: u32, superframes: u32) -> Fault {
+fn put_right(fds: [i32; 53], promised: u32, superframes: u32) -> Fault {
     if promised == superframes {
         return files::fine();
     }
@@ -42,7 +50,7 @@ fn put_right(fds: [i32; 52], promised: u32, superframes: u32) -> Fault {
 }
 
 pub fn finish(
-    fds: [i32; 52],
+    fds: [i32; 53],
     header: HeaderRead,
     promised: u32,
     superframes: u32,
@@ -61,10 +69,15 @@ pub fn finish(
     if about.error != 0 {
         return about;
     }
-    let totals = going.totals;
-    let listing = write_listing(fds, header, totals);
+    let listed = going.totals;
+    let listing = write_listing(fds, header, listed);
     if listing.error != 0 {
         return listing;
+    }
+    let state = going.state;
+    let totals = write_totals(fds, header, state.totals);
+    if totals.error != 0 {
+        return totals;
     }
     files::settle(fds)
 }

@@ -88,7 +88,7 @@ struct Told {
 
 // What it does to the stretches, the names and the totals.
 fn tell(
-    fds: [i32; 52],
+    fds: [i32; 53],
     k: u32,
     going: Going,
     taken: Taken,
@@ -136,7 +136,7 @@ struct Taking {
 
 // Superframe k.
 fn hand_superframe(
-    fds: [i32; 52],
+    fds: [i32; 53],
     pages: &mut [u8],
     k: u32,
     last: Taking,
@@ -163,7 +163,7 @@ fn hand_superframe(
 }
 
 // Superframe k, where it comes.
-fn hand_next(fds: [i32; 52], pages: &mut [u8], k: u32, last: Taking) -> Taking
+fn hand_next(fds: [i32; 53], pages: &mut [u8], k: u32, last: Taking) -> Taking
     requires { ⌜ k < 4294967295 ⌝ }
 {
     let mut bytes = [0u8; 5120];
@@ -189,7 +189,7 @@ struct Row {
 }
 
 // Superframes from one on, as many as come, are promised and have room in the pages.
-fn hand_row(fds: [i32; 52], pages: &mut [u8], start: Taking, first: u32, count: u32) -> Row
+fn hand_row(fds: [i32; 53], pages: &mut [u8], start: Taking, first: u32, count: u32) -> Row
     requires { ⌜ first < count ⌝ }
     ensures { λ r. ⌜ (r .k ≤ first + 64) × (r .k ≤ count) × (first ≤ r .k) ⌝ }
 {
@@ -220,7 +220,7 @@ fn start(going: Going) -> Taking {
     }
 }
 
-fn write_row(fds: [i32; 52], pages: &[u8], n: u32, last: Taking) -> Fault
+fn write_row(fds: [i32; 53], pages: &[u8], n: u32, last: Taking) -> Fault
     requires { ⌜ n ≤ 64 ⌝ }
 {
     let fault = last.fault;
@@ -231,7 +231,7 @@ fn write_row(fds: [i32; 52], pages: &[u8], n: u32, last: Taking) -> Fault
 }
 
 // The next superframes, up to 64.
-pub(crate) fn hand_batch(fds: [i32; 52], going: Going, first: u32, count: u32) -> Batch
+pub(crate) fn hand_batch(fds: [i32; 53], going: Going, first: u32, count: u32) -> Batch
     requires { ⌜ first < count ⌝ }
     ensures { λ r. ⌜ (r .n ≤ 64) × (first + r .n ≤ count) ⌝ }
 {

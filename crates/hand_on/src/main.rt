@@ -1,7 +1,7 @@
 // Hands on the reel on standard input: fills the folder that it was started in with the files of docs/HAND-ON.md, and says how that ended.
 //     hand_on DESCRIPTOR REEL COMMIT RADIUS
 // The radius is 2 or 3, and without it 2. REEL and COMMIT stand in `about.txt` as they are given. Where a file fails, its name stands behind the word.
-mod files; // files.rt: the 52 files, made, written and on the disk
+mod files; // files.rt: the 53 files, made, written and on the disk
 mod going; // going.rt: what goes on from superframe to superframe
 mod pages; // pages.rt: the sound and the marks of some superframes, before they are written
 mod names; // names.rt: the lines of types and labels
@@ -43,7 +43,7 @@ struct Superframes {
 }
 
 // The superframes that come, at most as many as the header promises.
-fn hand_superframes(fds: [i32; 52], count: u32, radius: u8) -> Superframes {
+fn hand_superframes(fds: [i32; 53], count: u32, radius: u8) -> Superframes {
     let mut going = Going::none(radius);
     let mut done: u32 = 0;
     let mut error: u32 = 0;

@@ -35,7 +35,7 @@ fn unheard(noted: Noted) -> Heard {
 }
 
 // Of superframe k, from 1, which was taken from a state. A line has at most 80 characters, and there are 32 at most of each sort.
-pub fn hear(fds: [i32; 52], noted: Noted, k: u32, before: State, taken: Taken) -> Heard {
+pub fn hear(fds: [i32; 53], noted: Noted, k: u32, before: State, taken: Taken) -> Heard {
     if taken.number != 0 {
         return Heard {
             noted,

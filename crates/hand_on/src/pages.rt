@@ -64,7 +64,7 @@ pub fn put(pages: &mut [u8], k: u32, lost: bool, samples: &[i16], marks: &[u8]) 
 }
 
 // A file's part of the pages, so many bytes from its start.
-fn write_part(fds: [i32; 52], file: u8, pages: &[u8], length: usize) -> Fault {
+fn write_part(fds: [i32; 53], file: u8, pages: &[u8], length: usize) -> Fault {
     let start = 16384 * file as usize;
     if pages.len() < start {
         return Fault {
@@ -85,7 +85,7 @@ fn share(file: u8, n: usize) -> usize
     128 * n
 }
 
-fn write_parts(fds: [i32; 52], pages: &[u8], n: usize) -> Fault
+fn write_parts(fds: [i32; 53], pages: &[u8], n: usize) -> Fault
     requires { ⌜ n ≤ 64 ⌝ }
 {
     let mut file: u8 = 0;
@@ -100,7 +100,7 @@ fn write_parts(fds: [i32; 52], pages: &[u8], n: usize) -> Fault
     files::fine()
 }
 
-fn write_words(fds: [i32; 52], pages: &[u8], end: usize) -> Fault {
+fn write_words(fds: [i32; 53], pages: &[u8], end: usize) -> Fault {
     if pages.len() < 524288 {
         return Fault {
             file: 49,
@@ -117,7 +117,7 @@ fn write_words(fds: [i32; 52], pages: &[u8], end: usize) -> Fault {
 }
 
 // Writes n superframes, whose words end at a place.
-pub(crate) fn write(fds: [i32; 52], pages: &[u8], n: usize, end: usize) -> Fault
+pub(crate) fn write(fds: [i32; 53], pages: &[u8], n: usize, end: usize) -> Fault
     requires { ⌜ n ≤ 64 ⌝ }
 {
     let fault = write_parts(fds, pages, n);

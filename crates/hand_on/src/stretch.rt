@@ -27,7 +27,7 @@ fn kinds_of(q: usize, lost: bool, marks: &[u8]) -> [u8; 64] {
 }
 
 // Superframe k, from 0.
-pub fn step(fds: [i32; 52], tracks: [Stepped; 16], k: u32, lost: bool, marks: &[u8]) -> Tracks {
+pub fn step(fds: [i32; 53], tracks: [Stepped; 16], k: u32, lost: bool, marks: &[u8]) -> Tracks {
     let mut all = tracks;
     let mut q: u8 = 0;
     while q < 16 {
@@ -48,7 +48,7 @@ pub fn step(fds: [i32; 52], tracks: [Stepped; 16], k: u32, lost: bool, marks: &[
 }
 
 // Behind the last superframe.
-pub fn finish(fds: [i32; 52], tracks: [Stepped; 16]) -> Fault {
+pub fn finish(fds: [i32; 53], tracks: [Stepped; 16]) -> Fault {
     let mut q: u8 = 0;
     while q < 16 {
         let mut line = [0u8; 256];

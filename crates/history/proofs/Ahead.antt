@@ -7,7 +7,6 @@
 --     two-ahead-lose, lose-next, lose-none, lose-lose-none      the same where a superframe, or two, are lost through `lose`
 -- Assumes nothing.
 use mathlib.Core.Path.{_≡_, ap, subst, _∙_}
-use mathlib.Core.Bool.{true}
 use mathlib.Core.Logic.{_⊎_, ⊎-elim}
 use mathlib.Core.List.{List}
 use Prim.Native.Nat.{ℕ, _%_}
@@ -16,7 +15,7 @@ use lib.IntN.{pos}
 use lib.ListN.{getD, getD-replicate}
 use Rattle.bits.specs.Table.{tabulate}
 use Rattle.bits.proofs.Table.{tab-ext}
-use Rattle.superframe.specs.State.{missing, stateInRange, lostState, lostWith}
+use Rattle.superframe.specs.State.{missing, lostState, lostWith}
 use Rattle.sound.specs.Sound.{soundAt, markWith, sampleAt, markAt, inRows, samplesOf, marksOf}
 use Rattle.beside.specs.Beside.{programmesOf}
 use Rattle.superframe.specs.Take.{besideWith, refusedWith, takeAnswer}
@@ -24,8 +23,7 @@ use Rattle.history.specs.Calls.{Call, Accepted, LostIn, HeardAt, Silent}
 use Rattle.superframe.specs.declared.state.State.{State}
 use Rattle.superframe.specs.declared.taking.Taken.{Taken}
 use Rattle.history.proofs.Loss.{lose-keeps-first, lose-twice}
-use Rattle.history.proofs.Ranges.{take-in-range}
-use Rattle.history.proofs.Answers.{numbered, answer-is, accepted-in-range}
+use Rattle.history.proofs.Answers.{numbered, answer-is}
 
 -- ---- one call
 module _ (s : State) (k : Call s) where
@@ -81,17 +79,18 @@ module _ (s : State) (first : Call s) (second : Call (first .answer .next)) wher
   loss-none third a b = silent-at (second .answer .next) third (moved (first .answer .next) second b ∙ ap (λ (t : State). t .after) (lost-state s first a))
 
 -- ---- a superframe that is lost through `lose`
-pub two-ahead-lose : (s : State) (first : Call s) (third : Call (lostWith (first .answer .next) .next)) → Accepted first → Accepted third → HeardAt third (programmesOf (first .bytes) .factors)
-two-ahead-lose s first third a =
+pub two-ahead-lose : (s : State) (first : Call s) (third : Call (lostWith (first .answer .next) .next)) → Accepted first → lostWith (first .answer .next) .number ≡ 0
+    → Accepted third → HeardAt third (programmesOf (first .bytes) .factors)
+two-ahead-lose s first third a b =
     let t = first .answer .next in
-    heard-at (lostWith t .next) third _ (lose-keeps-first t (take-in-range s first (accepted-in-range s first a)) .0 ∙ taken-next s first a .1)
+    heard-at (lostWith t .next) third _ (lose-keeps-first t b .0 ∙ taken-next s first a .1)
 
-module _ (s : State) (h : stateInRange s ≡ true) where
+module _ (s : State) (h : lostWith s .number ≡ 0) where
   pub lose-next : (second : Call (lostWith s .next)) → Accepted second → HeardAt second (s .after)
   lose-next second = heard-at (lostWith s .next) second _ (lose-keeps-first s h .0)
 
   pub lose-none : (second : Call (lostWith s .next)) (third : Call (second .answer .next)) → Accepted second ⊎ LostIn second → Accepted third → Silent third
   lose-none second third b = silent-at (second .answer .next) third (moved (lostWith s .next) second b ∙ lose-keeps-first s h .1)
 
-  pub lose-lose-none : (third : Call (lostWith (lostWith s .next) .next)) → Accepted third → Silent third
-  lose-lose-none third = silent-at (lostWith (lostWith s .next) .next) third (rw (lose-twice s h))
+  pub lose-lose-none : lostWith (lostWith s .next) .number ≡ 0 → (third : Call (lostWith (lostWith s .next) .next)) → Accepted third → Silent third
+  lose-lose-none again third = silent-at (lostWith (lostWith s .next) .next) third (rw (lose-twice s h again))

@@ -22,6 +22,7 @@ use Rattle.service.proofs.Machine.{served-is}
 use Rattle.reading.specs.Reading.{ordinary, largestRadius}
 use Rattle.reading.proofs.Radius.{chosen-small}
 use Rattle.tape.specs.Tape.{blocksOf, refusedCounts, countedWith, syncNumber, countsOf}
+use Rattle.running.specs.Running.{hasRoom}
 use Rattle.sound.specs.Sound.{lengthsFit}
 use Rattle.beside.specs.Beside.{numberAt, programmesOf, sixAndSync}
 use Rattle.superframe.specs.State.{serviceOf, stateInRange}
@@ -29,7 +30,6 @@ use Rattle.superframe.specs.Take.{takable, takeNumber, servedIn, besideWith, no
 use Rattle.superframe.proofs.Refusals as of
 use Rattle.superframe.proofs.Serving.{taken-range, taken-radius}
 use Rattle.superframe.specs.declared.state.State.{State}
-use Rattle.superframe.specs.declared.taking.Taken.{Taken}
 use Rattle.history.specs.Calls.{Call, Accepted, LostIn}
 use Rattle.history.proofs.Carries.{sync-below, number-small}
 use Rattle.history.proofs.Ranges.{service-fact}
@@ -67,7 +67,9 @@ unfolding takeNumber countsOf syncNumber
 sync-number radius s sf samples marks e =
     either-way (lengthsFit (length sf) (length samples) (length marks))
     (λ t. either-way (takable radius s)
-    (λ u. rw (superframe-fits (length sf) (length samples) (length marks) t, t, u))
+    (λ u. either-way (hasRoom (s .totals))
+    (λ v. rw (superframe-fits (length sf) (length samples) (length marks) t, t, u, v))
+    (λ v. let z : takeNumber radius s sf samples marks ≡ 9 = rw (t, u, v) in absurd (⊎-elim (λ e. omega arith) (λ e. omega arith) e)))
     (λ u. let z : takeNumber radius s sf samples marks ≡ 2 = rw (t, u) in absurd (⊎-elim (λ e. omega arith) (λ e. omega arith) e)))
     (λ t. let z : takeNumber radius s sf samples marks ≡ 1 = rw t in absurd (⊎-elim (λ e. omega arith) (λ e. omega arith) e))
 

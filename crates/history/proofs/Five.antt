@@ -6,7 +6,7 @@
 --     second-alike, third-alike     the next one answers the same and sounds the same; the one after it answers the same and sounds the same but for the programme;
 --                           then the two states are one
 -- Assumes nothing.
-use mathlib.Core.Path.{_≡_, refl, sym, ap, ap₂, subst, _∙_}
+use mathlib.Core.Path.{_≡_, refl, sym, ap, ap₂, _∙_}
 use mathlib.Core.Bool.{Bool, true, false, cond}
 use mathlib.Core.Logic.{_⊎_, inl, inr, ⊎-elim, _≢_}
 use mathlib.Core.List.{List}
@@ -27,20 +27,22 @@ use Rattle.tape.specs.Tape.{synced, readingIn, blockMark, howMany, talliedBy, k
 use Rattle.tape.proofs.Tape.{many-same}
 use Rattle.tape.specs.Document.{entry, channelOf}
 use Rattle.sound.specs.Document.{placeIn}
-use Rattle.sound.specs.Sound.{soundAt, markWith, codeIn, sampleAt, markAt, inRows, samplesOf, marksOf, lengthsFit}
+use Rattle.sound.specs.Sound.{soundAt, markWith, codeIn, sampleAt, markAt, inRows, samplesOf, marksOf}
 use Rattle.sound.proofs.Stands.{sample-is, mark-is, channel-stands}
 use Rattle.nearest.specs.declared.Extra.{Extra}
 use Rattle.nearest.specs.Extra.{extraAnswer}
 use Rattle.nearest.proofs.ExtraBits.{extra-word}
-use Rattle.beside.specs.Beside.{extraBits, extraOf, factorOr, sideOf, factorRead, wordAt, programmesOf, sixAndSync}
+use Rattle.beside.specs.Beside.{extraBits, extraOf, factorOr, sideOf, factorRead, wordAt, programmesOf}
 use Rattle.beside.specs.Document.{OnlyScale}
 use Rattle.beside.proofs.Scales.{extra-bits-below}
 use Rattle.beside.proofs.Stands.{five-missing}
+use Rattle.running.specs.Running.{withTaken}
+use Rattle.running.specs.declared.Running.{Running}
 use Rattle.superframe.specs.State.{serviceOf, joinedState, stateInRange}
 use Rattle.superframe.specs.Take.{takable, takeNumber, besideWith, refusedWith, takeAnswer}
 use Rattle.superframe.specs.declared.state.State.{State}
 use Rattle.superframe.specs.declared.taking.Taken.{Taken}
-use Rattle.history.specs.Calls.{Call, Accepted, LostIn, HeardAt}
+use Rattle.history.specs.Calls.{Call, Accepted, LostIn}
 use Rattle.history.specs.Alike.{OffProgramme, Alike, LentAlike, SameAnswer, AnswerBut, SoundBut}
 use Rattle.history.proofs.OneScale as one
 use Rattle.history.proofs.Ranges.{take-in-range}
@@ -69,10 +71,10 @@ picked-both true P h k = h
 picked-both false P h k = k
 
 -- ---- the same bytes, given to two states that are alike
-number-same : (radius : ℕ) (s s' : State) (sf sf' : List ℕ) (samples : List ℤ) (marks : List ℕ) → length sf ≡ length sf' → synced sf ≡ synced sf' → stateInRange s ≡ stateInRange s'
+number-same : (radius : ℕ) (s s' : State) (sf sf' : List ℕ) (samples : List ℤ) (marks : List ℕ) → length sf ≡ length sf' → synced sf ≡ synced sf' → stateInRange s ≡ stateInRange s' → s .totals ≡ s' .totals
     → takeNumber radius s sf samples marks ≡ takeNumber radius s' sf' samples marks
 unfolding takeNumber takable
-number-same radius s s' sf sf' samples marks e f g = rw (e, f, g)
+number-same radius s s' sf sf' samples marks e f g h = rw (e, f, g, h)
 
 moved-in-range : (s : State) (k : Call s) → Accepted k ⊎ LostIn k → stateInRange (k .answer .next) ≡ true
 moved-in-range s k = ⊎-elim (λ z. take-in-range s k (accepted-in-range s k z)) (λ z. take-in-range s k (lost-range s k z))
@@ -90,7 +92,7 @@ module _ (P R : List ℕ → List ℕ → Type 0) (s s' : State) (alike : Alike 
       sym (numbered s k)
       ∙ ap₂ (λ (x : List ℤ) (m : List ℕ). takeNumber (k .radius) s (k .bytes) x m) (lent .samples) (lent .marks)
       ∙ ap (λ (r : ℕ). takeNumber r s (k .bytes) (k' .lent-samples) (k' .lent-marks)) (lent .radius)
-      ∙ number-same (k' .radius) s s' (k .bytes) (k' .bytes) (k' .lent-samples) (k' .lent-marks) (ap length bytes) (ap synced bytes) (alike .range)
+      ∙ number-same (k' .radius) s s' (k .bytes) (k' .bytes) (k' .lent-samples) (k' .lent-marks) (ap length bytes) (ap synced bytes) (alike .range) (alike .totals)
       ∙ numbered s' k'
 
   -- the same answer, by the first call's radius and bytes
@@ -121,6 +123,7 @@ module _ (P R : List ℕ → List ℕ → Type 0) (s s' : State) (alike : Alike 
         next = rw (is .0, is .1) (alike .after);
         after = rw (is .0, is .1);
         service = rw (is .0, is .1, alike .service);
+        totals = rw (is .0, is .1, alike .totals);
         range = ranges (inl z);
       }
 
@@ -132,6 +135,7 @@ module _ (P R : List ℕ → List ℕ → Type 0) (s s' : State) (alike : Alike 
         next = rw (is .0, is .1) (alike .after);
         after = rw (is .0, is .1);
         service = rw (is .0, is .1);
+        totals = rw (is .0, is .1, alike .totals);
         range = ranges (inr z);
       }
 
@@ -243,13 +247,13 @@ module _ (q : ℕ) (low : 1 ≤ q) (high : q ≤ 16) (sf sf' : List ℕ) (d : On
       → Alike _≡_ (OffProgramme q) (takeAnswer radius 0 s sf .next) (takeAnswer radius 0 s sf' .next)
   unfolding takeAnswer besideWith
   states-alike s e =
-      record { next = refl; after = factors-off; service = rw (one.six-same q low high sf sf' d); range = e }
+      record { next = refl; after = factors-off; service = rw (one.six-same q low high sf sf' d); totals = ap (withTaken (s .totals)) blocks-same; range = e }
 
 -- ---- sound at factors that agree but for a programme's
 joined-same : (t t' : State) → Alike _≡_ _≡_ t t' → t ≡ t'
 joined-same t t' h =
-    ap₂ (λ (f : List ℕ) (v : Service). joinedState (record { next = f; after = t .after }) v) (h .next) (h .service)
-    ∙ ap (λ (f : List ℕ). joinedState (record { next = t' .next; after = f }) (serviceOf t')) (h .after)
+    ap₂ (λ (f : List ℕ) (v : Service). joinedState (record { next = f; after = t .after }) v (t .totals)) (h .next) (h .service)
+    ∙ ap₂ (λ (f : List ℕ) (n : Running). joinedState (record { next = t' .next; after = f }) (serviceOf t') n) (h .after) (h .totals)
 
 module _ {q : ℕ} (s s' : State) (k : Call s) (k' : Call s') (bytes : k .bytes ≡ k' .bytes) (lent : LentAlike k k') (number : k .answer .number ≡ k' .answer .number)
     {R : List ℕ → List ℕ → Type 0} (alike : Alike (OffProgramme q) R s s') where
@@ -290,7 +294,7 @@ module _ (q : ℕ) (low : 1 ≤ q) (high : q ≤ 16) (s : State) (first first' :
       sym (numbered s first')
       ∙ sym (ap₂ (λ (x : List ℤ) (m : List ℕ). takeNumber (first' .radius) s (first' .bytes) x m) (lent .samples) (lent .marks))
       ∙ ap (λ (r : ℕ). takeNumber r s (first' .bytes) (first .lent-samples) (first .lent-marks)) (sym (lent .radius))
-      ∙ sym (number-same (first .radius) s s (first .bytes) (first' .bytes) (first .lent-samples) (first .lent-marks) (d .size ∙ sym (d .size')) (one.sync-same q low high (first .bytes) (first' .bytes) d) refl)
+      ∙ sym (number-same (first .radius) s s (first .bytes) (first' .bytes) (first .lent-samples) (first .lent-marks) (d .size ∙ sym (d .size')) (one.sync-same q low high (first .bytes) (first' .bytes) d) refl refl)
       ∙ numbered s first ∙ a
 
   pub first-sound : (first .samples ≡ first' .samples) × (first .marks ≡ first' .marks)

@@ -1,5 +1,5 @@
 -- Service bytes and labels, over the reader's state: what the service machine does, the state's service part does, and the factors stay.
---     run-parts               a run of steps: the factors as given, the service part as the machine leaves it
+--     run-parts               a run of steps: the factors and the totals as given, the service part as the machine leaves it
 --     NoLabels r              an answer that hands out no labels
 --     labels-come             a separator and eight groups, all syncs in order, hand out the labels that they spell, with the last six bytes
 --     labels-not-before       and none of the 71 superframes before
@@ -25,10 +25,10 @@ use Rattle.superframe.specs.State.{factorsOf, serviceOf, joinedState, stateInRa
 use Rattle.history.specs.Run.{taken, behind}
 use Rattle.superframe.specs.declared.state.State.{State}
 use Rattle.superframe.specs.declared.state.Serviced.{Serviced}
-use Rattle.history.proofs.Loss.{lost-in-range, lose-accepted}
+use Rattle.history.proofs.Loss.{lost-in-range, lose-free, lose-accepted}
 use Rattle.history.proofs.Ranges.{service-fact, serviced-is, service-keeps-range}
 
-pub run-parts : (xs : List Step) (s : State) → stateInRange s ≡ true → behind s xs ≡ joinedState (factorsOf s) (after (serviceOf s) xs)
+pub run-parts : (xs : List Step) (s : State) → stateInRange s ≡ true → behind s xs ≡ joinedState (factorsOf s) (after (serviceOf s) xs) (s .totals)
 unfolding behind after
 run-parts [] s h = refl
 run-parts (x ∷ xs) s h = run-parts xs (taken s x .next) (service-keeps-range s x h) ∙ rw (serviced-is s (x .six) (x .sync) h)
@@ -57,11 +57,11 @@ pub soon-none : (s : State) → stateInRange s ≡ true → progress.progress (s
     → NoLabels (taken (behind s xs) x)
 soon-none s h l xs n x = none-above xs s x h (progress.soon-none (serviceOf s) (service-fact s h) l xs n x)
 
-module _ (s : State) (h : stateInRange s ≡ true) where
-  pub loss-none : (xs : List Step) → length xs ≤ 70 → (x : Step) → NoLabels (taken (behind (lostWith s .next) xs) x)
-  unfolding searchingService
-  loss-none = rw (lose-accepted s h) (soon-none _ (lost-in-range s h) (omega arith))
+pub loss-none : (s : State) → lostWith s .number ≡ 0 → (xs : List Step) → length xs ≤ 70 → (x : Step) → NoLabels (taken (behind (lostWith s .next) xs) x)
+unfolding searchingService
+loss-none s a = let free = lose-free s a in rw (lose-accepted s a) (soon-none _ (lost-in-range s (free .0) (free .1)) (omega arith))
 
+module _ (s : State) (h : stateInRange s ≡ true) where
   pub drop-none : (y : Step) → Below 2 (y .sync) → dropsWith (kindOf (y .sync)) (s .position) ≡ true
       → (xs : List Step) → length xs ≤ 70 → (x : Step) → NoLabels (taken (behind (taken s y .next) xs) x)
   drop-none y b e =

@@ -11,3 +11,4 @@ pub mod Same
 pub mod OneScale
 pub mod Five
 pub mod Repaired
+pub mod Totals

@@ -6,34 +6,30 @@
 --     none-for-71           where the labels have made no way, the next 71 calls hand out none, taken, lost or refused
 --     loss-none, drop-none  behind a loss; behind a dropped group, a dropped Sync 2 or a 7
 -- Assumes nothing.
-use mathlib.Core.Path.{_≡_, refl, sym, ap, subst, _∙_}
+use mathlib.Core.Path.{_≡_, refl, sym, ap, _∙_}
 use mathlib.Core.Bool.{true, false}
-use mathlib.Core.Logic.{inl}
-use mathlib.Core.List.{List, [], _∷_, _++_}
+use mathlib.Core.List.{List}
 use Prim.Native.Nat.{ℕ, zero, suc, _+_, _<_, _≤_}
 use native.Mathlib.Omega.{arith}
-use borrow.Author.Tests.{eqb-true}
 use lib.Dec.{eqb}
 use lib.ListN.{replicate}
-use Rattle.bits.specs.Table.{tabulate, zeros}
+use Rattle.bits.specs.Table.{tabulate}
 use Rattle.bits.proofs.Table.{tab-ext}
 use Rattle.bits.proofs.Tests.{either-way}
 use Rattle.service_sync.specs.Sync.{kindOf, nextPosition, dropsWith}
 use Rattle.service.specs.Service.{searchingService}
 use Rattle.service.specs.Taking.{takeSync, takeSix}
-use Rattle.service.specs.Run.{Step, stepped, after}
+use Rattle.service.specs.Run.{stepped, after}
 use Rattle.service.specs.Broadcast.{syncBehind, stepOf, broadcast, Separated, labelsOf}
 use Rattle.service.specs.declared.Service.{Service}
 use Rattle.service.proofs.Machine as step
 use Rattle.service.proofs.Machine.{served-is}
 use Rattle.service.proofs.Progress as progress
 use Rattle.service.proofs.Labels as machine
-use Rattle.beside.specs.Beside.{sixAndSync}
-use Rattle.superframe.specs.State.{serviceOf, stateInRange, lostWith, lostState}
+use Rattle.superframe.specs.State.{serviceOf, stateInRange, lostState}
 use Rattle.superframe.specs.Take.{takeNumber, besideWith, refusedWith, takeAnswer}
-use Rattle.bits.proofs.Order.{given-three}
-use Rattle.tape.proofs.Faults.{tells-sync}
-use Rattle.superframe.proofs.Refusals.{tells-lengths, tells-state, tells-takable, take-refuses}
+use Rattle.running.specs.Running.{hasRoom}
+use Rattle.superframe.proofs.Refusals as of
 use Rattle.superframe.specs.declared.state.State.{State}
 use Rattle.superframe.specs.declared.taking.Taken.{Taken}
 use Rattle.history.specs.Calls.{Call, Accepted, LostIn, Calls, stepIn, LabelsNone}
@@ -140,18 +136,22 @@ module _ (state : ℕ → State) (calls : Calls state) where
         rw (answered (state 71) k (taken 71 (omega arith)), before) come
 
 -- ---- what sets the labels back
-pub lost-range : (s : State) (k : Call s) → LostIn k → stateInRange s ≡ true
-lost-range s k z =
-    either-way (stateInRange s) (λ u. u)
-    (λ u.
-    let refuses = take-refuses (k .radius) s (k .bytes) (k .lent-samples) (k .lent-marks) (k .answer) (k .samples) (k .marks) (k .took) in
-    absurd (given-three (refuses .order) _ _ _ (tells-lengths (k .bytes) (k .lent-samples) (k .lent-marks)) (tells-takable (k .radius) s) (tells-sync (k .bytes)) z .1 .0 (inl (tells-state s .there u))))
+module _ (s : State) (k : Call s) (z : LostIn k) where
+  pub lost-range : stateInRange s ≡ true
+  lost-range =
+      of.ranged (k .radius) s (k .bytes) (k .lent-samples) (k .lent-marks) (k .answer) (k .samples) (k .marks) (k .took)
+      (λ e. omega (arith, z, e)) (λ e. omega (arith, z, e))
+
+  pub lost-room : hasRoom (s .totals) ≡ true
+  lost-room =
+      of.roomy (k .radius) s (k .bytes) (k .lent-samples) (k .lent-marks) (k .answer) (k .samples) (k .marks) (k .took)
+      (λ e. omega (arith, z, e)) (λ e. omega (arith, z, e)) (λ e. omega (arith, z, e))
 
 pub loss-none : (state : ℕ → State) (calls : Calls state) (s : State) (k : Call s) → LostIn k → state 0 ≡ k .answer .next → (n : ℕ) → n ≤ 70 → LabelsNone (calls .call n)
 unfolding searchingService
 loss-none state calls s k z e =
     let first : state 0 ≡ lostState s = e ∙ lost-state s k z in
-    none-for-71 state calls (rw first (lost-in-range s (lost-range s k z))) (rw first (omega arith))
+    none-for-71 state calls (rw first (lost-in-range s (lost-range s k z) (lost-room s k z))) (rw first (omega arith))
 
 pub drop-none : (state : ℕ → State) (calls : Calls state) (s : State) (k : Call s) → Accepted k → dropsWith (kindOf (stepIn k .sync)) (s .position) ≡ true
     → state 0 ≡ k .answer .next → (n : ℕ) → n ≤ 70 → LabelsNone (calls .call n)

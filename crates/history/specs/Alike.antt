@@ -1,6 +1,6 @@
 -- Two runs that are told apart by the scale word of one programme alone (document 01, "Numbers given", number 5). Programmes count from 1.
 --     OffProgramme q l l'       two sets of factors that agree but for the two channels of programme q
---     Alike P R s s'            two states, their first sets related by P and their second by R; all else is the same
+--     Alike P R s s'            two states, their first sets related by P and their second by R; all else is the same, the totals too
 --     LentAlike k k'            two calls at the same radius that were lent the same lists
 --     SameAnswer r r'           two answers that differ, if at all, in their next states
 --     AnswerBut q r r'          two answers that differ in the number, the factors and the places of programme q, and in their next states
@@ -23,6 +23,7 @@ pub record Alike (P R : List ℕ → List ℕ → Type 0) (s s' : State) : Type 
   pub next : P (s .next) (s' .next)
   pub after : R (s .after) (s' .after)
   pub service : serviceOf s ≡ serviceOf s'
+  pub totals : s .totals ≡ s' .totals
   pub range : stateInRange s ≡ stateInRange s'
 
 pub record LentAlike {s s' : State} (k : Call s) (k' : Call s') : Type 0 where

@@ -1,11 +1,12 @@
 -- The text of a listing.
 --     document-case     document 01's reel of two: the definition gives its seven lines, letter by letter
+--     length-line, length-ending    a line of a number below 10 to a power, and the last line, have at most so many characters
 --     listing-fits      a listing of totals of 64 bits has at most 175 characters
 --     listing-whole     so a buffer of so many bytes holds it from its first byte on: it is not refused, and stands there
 -- Assumes nothing.
 use mathlib.Core.Path.{_≡_, refl, ap, _∙_}
 use mathlib.Core.List.{List, [], _∷_, _++_}
-use Prim.Native.Nat.{ℕ, _+_, _^_, _≤_, _<_}
+use Prim.Native.Nat.{ℕ, suc, _+_, _^_, _≤_, _<_}
 use native.Mathlib.Nat.{zero-add}
 use native.Mathlib.Omega.{arith}
 use lib.Dec.{eqb}
@@ -30,13 +31,16 @@ pub document-case :
 unfolding listing sevenLines line ending letters decimalIn
 document-case = refl
 
-length-line : (word : List ℕ) (n : ℕ) → n < 2 ^ 64 → length (line word n) ≤ length word + 22
+pub length-line : (k : ℕ) (word : List ℕ) (n : ℕ) → n < 10 ^ suc k → length (line word n) ≤ length word + k + 3
 unfolding line
-length-line word n h =
-    let d = decimal-short 19 n (omega (arith, h)) in
+length-line k word n h =
+    let d = decimal-short k n h in
     rw (length-append word ((32 ∷ []) ++ (decimal n ++ (10 ∷ []))), length-append (decimal n) (10 ∷ [])) (omega (arith, d))
 
-length-ending : (promised read : ℕ) → length (ending promised read) ≤ 10
+length-wide : (word : List ℕ) (n : ℕ) → n < 2 ^ 64 → length (line word n) ≤ length word + 22
+length-wide word n h = let l = length-line 19 word n (omega (arith, h)) in omega (arith, l)
+
+pub length-ending : (promised read : ℕ) → length (ending promised read) ≤ 10
 unfolding ending letters
 length-ending promised read = either-way (eqb promised read) (λ e. rw e (omega arith)) (λ e. rw e (omega arith))
 
@@ -52,12 +56,12 @@ pub record Held (t : Totals) : Type 0 where
 length-seven : (promised : ℕ) (t : Totals) → Held t → length (sevenLines promised t) ≤ 175
 unfolding sevenLines letters
 length-seven promised t h =
-    let a = length-line (letters "superframes") (t .superframes) (h .superframes) in
-    let b = length-line (letters "lost") (t .lost) (h .lost) in
-    let w = length-line (letters "sync") (t .wrong) (h .wrong) in
-    let c = length-line (letters "clean") (t .clean) (h .clean) in
-    let d = length-line (letters "mended") (t .mended) (h .mended) in
-    let e = length-line (letters "bad") (t .bad) (h .bad) in
+    let a = length-wide (letters "superframes") (t .superframes) (h .superframes) in
+    let b = length-wide (letters "lost") (t .lost) (h .lost) in
+    let w = length-wide (letters "sync") (t .wrong) (h .wrong) in
+    let c = length-wide (letters "clean") (t .clean) (h .clean) in
+    let d = length-wide (letters "mended") (t .mended) (h .mended) in
+    let e = length-wide (letters "bad") (t .bad) (h .bad) in
     let f = length-ending promised (t .superframes) in
     rw (
       length-append (line (letters "superframes") (t .superframes)) _,
@@ -71,7 +75,7 @@ length-seven promised t h =
 pub listing-fits : (h : HeaderRead) (t : Totals) → Held t → length (listing (headerAnswer h) t) ≤ 175
 unfolding listing letters
 listing-fits (Reel count offset) t l = length-seven count t l
-listing-fits NoHeader t l = let r = length-line (letters "refused") 8 (omega arith) in omega (arith, r)
+listing-fits NoHeader t l = let r = length-line 0 (letters "refused") 8 (omega arith) in omega (arith, r)
 
 pub listing-whole :
     (out : List ℕ) (h : HeaderRead) (t : Totals) → 175 ≤ length out → Held t →

@@ -8,7 +8,7 @@ use reel::HeaderRead;
 use tally::Totals;
 use text::Placed;
 
-fn put_line(out: &mut [u8], to: usize, word: &[u8], n: u64) -> usize
+pub fn put_line(out: &mut [u8], to: usize, word: &[u8], n: u64) -> usize
     ensures { λ r. ⌜ page (now (out .exit)) r ≡ putText (page (now (out .entry)) to) (line (now (word .entry)) n) ⌝ }
 {
     let behind = text::put_all(out, to, word);
@@ -17,7 +17,7 @@ fn put_line(out: &mut [u8], to: usize, word: &[u8], n: u64) -> usize
     text::put(out, number, b'\n')
 }
 
-fn put_ending(out: &mut [u8], to: usize, promised: u32, read: u64) -> usize
+pub fn put_ending(out: &mut [u8], to: usize, promised: u32, read: u64) -> usize
     ensures { λ r. ⌜ page (now (out .exit)) r ≡ putText (page (now (out .entry)) to) (ending promised read) ⌝ }
 {
     if promised as u64 == read {

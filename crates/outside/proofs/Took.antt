@@ -1,25 +1,48 @@
 -- Laws of the promise.
 --     other-length          88 bytes are asked for
 --     sized                 of so many, the number is that of taking
+--     never-full            no history is ever full, so no number is 9
 --     refused-one, refused-two, taken-by
 --                           what is promised, from what is promised of taking
 -- Assumes nothing.
 use mathlib.Core.Path.{_≡_, refl, sym, ap, _∙_, subst}
-use mathlib.Core.Bool.{cond}
+use mathlib.Core.Bool.{true, cond}
+use mathlib.Core.Logic.{_≢_}
 use mathlib.Core.List.{List}
 use Prim.Native.Nat.{ℕ}
+use native.Mathlib.Omega.{arith}
 use borrow.Author.Tests.{eq-eqb, ne-eqb}
 use lib.Dec.{eqb}
 use lib.IntN.{ℤ}
 use lib.ListN.{length}
-use Rattle.sound.specs.Sound.{samplesOf, marksOf}
-use Rattle.superframe.specs.Take.{takeNumber, takeAnswer, Took}
+use Rattle.bits.proofs.Tests.{either-way}
+use Rattle.tape.specs.Tape.{synced}
+use Rattle.running.specs.Running.{hasRoom, noRunning}
+use Rattle.sound.specs.Sound.{samplesOf, marksOf, lengthsFit}
+use Rattle.superframe.specs.Take.{takable, takeNumber, takeAnswer, Took}
 use Rattle.superframe.specs.declared.state.State.{State}
 use Rattle.superframe.specs.declared.taking.Taken.{Taken}
 use Rattle.superframe.proofs.Refusals.{numbered}
 use Rattle.outside.specs.Outside.{stateFrom, packedOf, outsideNumber, besideAfter, TookOutside}
 
+begins : hasRoom noRunning ≡ true
+unfolding hasRoom noRunning
+begins = refl
+
 module _ (radius : ℕ) (b sf : List ℕ) (samples : List ℤ) (marks : List ℕ) where
+  pub never-full : outsideNumber radius b sf samples marks ≢ 9
+  unfolding outsideNumber takeNumber stateFrom
+  never-full =
+      either-way (eqb (length b) 88)
+      (λ t. either-way (lengthsFit (length sf) (length samples) (length marks))
+      (λ u. either-way (takable radius (stateFrom b))
+      (λ v. either-way (synced sf)
+      (λ w. rw (t, u, v, begins, w) (λ e. omega (arith, e)))
+      (λ w. rw (t, u, v, begins, w) (λ e. omega (arith, e))))
+      (λ v. rw (t, u, v) (λ e. omega (arith, e))))
+      (λ u. rw (t, u) (λ e. omega (arith, e))))
+      (λ t. rw t (λ e. omega (arith, e)))
+
   pub other-length : (length b ≡ 88 → ⊥) → TookOutside radius b sf samples marks 1 b samples marks
   unfolding outsideNumber besideAfter
   other-length h =

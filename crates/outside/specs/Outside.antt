@@ -1,5 +1,5 @@
 -- A superframe taken over lent bytes alone.
---     stateFrom b           the state that 88 bytes stand for: two sets of factors, and the service searching
+--     stateFrom b           the state that 88 bytes stand for: two sets of factors, the service searching, and a history that begins
 --     packedAt next after blocks k
 --                           byte k of the 88, from the two sets of factors and the counts
 --     packedOf t            the 88 bytes behind a superframe: both sets of factors, and for each of the eight positions the clean, mended and bad blocks
@@ -15,6 +15,7 @@ use lib.Dec.{eqb, ltb}
 use lib.IntN.{ℤ}
 use lib.ListN.{length, getD}
 use Rattle.bits.specs.Table.{tabulate, zeros}
+use Rattle.running.specs.Running.{noRunning}
 use Rattle.sound.specs.Sound.{samplesOf, marksOf}
 use Rattle.tape.specs.declared.blocks.Blocks.{Blocks}
 use Rattle.superframe.specs.Take.{takeNumber, takeAnswer}
@@ -25,7 +26,7 @@ abbrev pub channelsFrom : List ℕ → ℕ → List ℕ
 channelsFrom b n = tabulate 32 (λ k. getD b (n + k) 0)
 
 unfoldable pub stateFrom : List ℕ → State
-stateFrom b = record { next = channelsFrom b 0; after = channelsFrom b 32; position = 0; group = zeros 32; stage = 0; labels = zeros 256 }
+stateFrom b = record { next = channelsFrom b 0; after = channelsFrom b 32; position = 0; group = zeros 32; stage = 0; labels = zeros 256; totals = noRunning }
 
 unfoldable pub packedAt : List ℕ → List ℕ → Blocks → ℕ → ℕ
 packedAt next after blocks k =

@@ -1,11 +1,12 @@
-// For programs in other languages: a superframe taken at a radius over lent bytes alone. What is carried from one to the next, but for the service, and the
-// counts stand in 88 bytes: the factors of the 32 channels for the next superframe and those for the one after it, and for each of the eight block positions
-// how many blocks were clean, mended and bad.
+// For programs in other languages: a superframe taken at a radius over lent bytes alone. What is carried from one to the next, but for the service and the
+// running totals, and the counts stand in 88 bytes: the factors of the 32 channels for the next superframe and those for the one after it, and for each of the
+// eight block positions how many blocks were clean, mended and bad, which a caller may add up.
 ghost use mathlib.Core.Path.{_≡_};
 ghost use Prim.Native.Nat.{_+_, _≤_, _<_};
 ghost use lib.ListN.{length, getD};
 ghost use Rattle.bits.specs.Table.{tabulate};
 ghost use Rattle.outside.specs.Outside.{stateFrom, packedAt, TookOutside};
+use running::Running;
 use superframe::State;
 use tape::Blocks;
 
@@ -23,7 +24,7 @@ fn channels(beside: &[u8], from: usize) -> [u8; 32]
     out
 }
 
-// With the service searching.
+// With the service searching, and nothing counted: so no history is full.
 fn state_from(beside: &[u8]) -> State
     requires { ⌜ length (now beside) ≡ 88 ⌝ }
     ensures { λ r. ⌜ r ≡ stateFrom (now (beside .entry)) ⌝ }
@@ -35,6 +36,7 @@ fn state_from(beside: &[u8]) -> State
         group: [0u8; 32],
         stage: 0,
         labels: [0u8; 256],
+        totals: Running::none(),
     }
 }
 

@@ -4,8 +4,8 @@
 --     part-order         THE ORDER: 1 where there is no run, then 2 where it has no superframe k
 --     refusal-empty      "a refusal hands back an empty part"
 -- Assumes nothing.
-use mathlib.Core.Path.{_≡_}
-use mathlib.Core.Bool.{true, _&&_}
+use mathlib.Core.Path.{_≡_, refl}
+use mathlib.Core.Bool.{_&&_}
 use mathlib.Core.Logic.{_≢_}
 use mathlib.Core.List.{List, []}
 use Prim.Native.Nat.{ℕ, _*_, _≤_}
@@ -13,9 +13,9 @@ use native.Mathlib.Omega.{arith}
 use borrow.Author.Tests.{leb-true, le-leb, ne-eqb}
 use lib.Dec.{leb}
 use lib.ListN.{length}
-use Rattle.bits.specs.Order.{Ordered}
+use Rattle.bits.specs.Order.{Refused, Accepted}
 use Rattle.bits.proofs.Tests.{both-true}
-use Rattle.bits.proofs.Order.{Tells, tells-nothing, tells-not, in-order}
+use Rattle.bits.proofs.Order.{Tells, tells-not, tested}
 use Rattle.reel.specs.Run.{countOf, isRun, partNumber, partOf}
 use Rattle.reel.proofs.Run.{run-lengths, run-of-length}
 
@@ -40,9 +40,9 @@ module _ (run : List ℕ) (k : ℕ) where
       (first, omega arith))
       (λ h. rw (le-leb 1 k (h .0), le-leb k (countOf run) (let fits = h .1 in omega arith)))
 
-  pub part-order : Ordered (Whole run → ⊥) (There run k → ⊥) ⊥ (partNumber run k)
+  pub part-order : Refused (Whole run → ⊥) 1 (Refused (There run k → ⊥) 2 Accepted) (partNumber run k)
   unfolding partNumber
-  part-order = in-order (isRun run) (leb 1 k && leb k (countOf run)) true tells-run tells-there tells-nothing
+  part-order = tested _ _ tells-run (tested _ _ tells-there refl)
 
   pub refusal-empty : partNumber run k ≢ 0 → partOf run k ≡ []
   unfolding partOf

@@ -1,11 +1,14 @@
--- What the reader's methods refuse, in document 01's words and order ("Numbers given").
+-- What the reader's methods refuse, in the words and order of document 01 ("Numbers given") and document 02 (P7, P9).
 --     tells-lengths, tells-state, tells-takable
 --                               the code's tests tell whether a length is wrong, whether a number of the state is out of its range, and whether that or the radius is
 --     number-is, numbered       the number of an answer
---     take-refuses, lose-refuses, service-refuses       THE REFUSALS of the three methods
+--     state-is                  and the state that comes with a refusal
+--     ranged, chosen, roomy     what the state and the radius are where 0 or 3 is answered
+--     take-refuses, lose-refuses, service-refuses, reset-refuses        THE REFUSALS of the four methods
+--     resets                    what a reset does where it is not refused
 -- Assumes nothing.
 use mathlib.Core.Path.{_≡_, refl, sym, ap, subst, _∙_}
-use mathlib.Core.Bool.{Bool, true, false, true≢false, cond, _&&_}
+use mathlib.Core.Bool.{Bool, true, false, true≢false, cond}
 use mathlib.Core.Logic.{_⊎_, inl, inr, ⊎-elim, _≢_}
 use mathlib.Core.List.{List, [], _∷_}
 use Prim.Native.Nat.{ℕ, zero, suc, _<_}
@@ -16,26 +19,29 @@ use lib.IntN.{ℤ}
 use lib.ListN.{length, getD}
 use Rattle.bits.specs.Table.{every}
 use Rattle.bits.specs.Bits.{allBelow}
-use Rattle.bits.specs.Order.{Ordered}
+use Rattle.bits.specs.Order.{Refused, Accepted}
 use Rattle.bits.proofs.Tests.{either-way, both-true, both-left, both-right}
 use Rattle.bits.proofs.Every.{every-missed}
-use Rattle.bits.proofs.Order.{Tells, tells-nothing, in-order}
+use Rattle.bits.proofs.Order.{Tells, tested, no-fault, past}
 use Rattle.reading.specs.Reading.{isRadius, OtherRadius}
 use Rattle.reading.proofs.Radius.{tells-radius}
-use Rattle.tape.specs.Tape.{synced}
 use Rattle.tape.specs.Faults.{WrongSync}
 use Rattle.tape.proofs.Faults.{tells-sync}
+use Rattle.running.specs.Running.{hasRoom, noRunning}
+use Rattle.running.specs.Document.{Full}
+use Rattle.running.proofs.Refusals.{tells-broken, tells-full}
 use Rattle.sound.specs.Sound.{lengthsFit}
 use Rattle.sound.proofs.Samples.{fits}
 use Rattle.service_sync.specs.Sync.{kindOf, numberOf}
 use Rattle.service_sync.specs.declared.Kind.{Kind}
 use Rattle.service_sync.specs.declared.Kind.the-variants.{First, Second, Neither}
 use Rattle.service.specs.Service.{inRange, accepts, refusedService, served}
-use Rattle.superframe.specs.State.{factorsOf, factorsInRange, serviceOf, stateInRange, lostWith, servicedBy, servicedWith}
+use Rattle.superframe.specs.State.{serviceOf, stateInRange, lostWith, servicedBy, servicedWith, resetWith}
 use Rattle.superframe.specs.Take.{takable, takeNumber, besideWith, refusedWith, stateUnder, takeAnswer, Took}
-use Rattle.superframe.specs.Document.{WrongLength, bytes, places, marked, OutOfRange, next, after, position, stage, NoBits, no-bit, TakeRefuses, LoseRefuses, ServiceRefuses}
+use Rattle.superframe.specs.Document.{WrongLength, bytes, places, marked, OutOfRange, next, after, position, stage, totals, NoBits, no-bit, TakeRefuses, LoseRefuses, ServiceRefuses, ResetRefuses, Resets}
 use Rattle.superframe.specs.declared.state.State.{State}
 use Rattle.superframe.specs.declared.taking.Taken.{Taken}
+use Rattle.superframe.proofs.Parts.{factors-in-range, service-in-range, running-in-range}
 use Rattle.superframe.proofs.Took.{lost-next}
 
 -- ---- lengths
@@ -90,26 +96,20 @@ module _ (s : State) where
   out e =
       either-way (allBelow 9 (s .next))
       (λ t. either-way (allBelow 9 (s .after))
-      (λ u. service-out (rw (t, u) at e))
+      (λ u. either-way (inRange (serviceOf s))
+      (λ v. totals (tells-broken (s .totals) .there (rw (t, u, v) at e)))
+      (λ v. service-out v))
       (λ u. let m = some-above 8 (s .after) u in after (m .place) (m .above)))
       (λ t. let m = some-above 8 (s .next) t in next (m .place) (m .above))
 
-  -- the four parts of a state in range
   module _ (e : stateInRange s ≡ true) where
-    factors : factorsInRange (factorsOf s) ≡ true
-    unfolding stateInRange
-    factors = both-left (factorsInRange (factorsOf s)) _ e
-
-    service : inRange (serviceOf s) ≡ true
-    unfolding stateInRange
-    service = both-right (factorsInRange (factorsOf s)) _ e
-
     within : OutOfRange s → ⊥
     unfolding inRange
-    within (next c h) = none-above 8 (s .next) c (both-left (allBelow 9 (s .next)) _ factors) h
-    within (after c h) = none-above 8 (s .after) c (both-right (allBelow 9 (s .next)) _ factors) h
-    within (position h) = omega (arith, leb-true (s .position) 8 (both-left (leb (s .position) 8) _ service))
-    within (stage h) = omega (arith, leb-true (s .stage) 8 (both-right (leb (s .position) 8) _ service))
+    within (next c h) = none-above 8 (s .next) c (both-left (allBelow 9 (s .next)) _ (factors-in-range s e)) h
+    within (after c h) = none-above 8 (s .after) c (both-right (allBelow 9 (s .next)) _ (factors-in-range s e)) h
+    within (position h) = omega (arith, leb-true (s .position) 8 (both-left (leb (s .position) 8) _ (service-in-range s e)))
+    within (stage h) = omega (arith, leb-true (s .stage) 8 (both-right (leb (s .position) 8) _ (service-in-range s e)))
+    within (totals h) = tells-broken (s .totals) .away (running-in-range s e) h
 
   pub tells-state : Tells (OutOfRange s) (stateInRange s)
   tells-state = record { there = out; away = within }
@@ -143,41 +143,82 @@ module _ (radius : ℕ) (s : State) (sf : List ℕ) (samples : List ℤ) (marks 
   pub numbered : number ≡ r .number
   numbered = sym (ap (λ (r : Taken). r .number) (t .answer) ∙ number-is radius number s sf)
 
-  in-three : Ordered (WrongLength sf samples marks) (OutOfRange s ⊎ OtherRadius radius) (WrongSync sf) number
-  unfolding takeNumber
-  in-three =
-      in-order (lengthsFit (length sf) (length samples) (length marks)) (takable radius s) (synced sf) (tells-lengths sf samples marks) (tells-takable radius s) (tells-sync sf)
+  abbrev InOrder : ℕ → Type 0
+  InOrder = Refused (WrongLength sf samples marks) 1 (Refused (OutOfRange s ⊎ OtherRadius radius) 2 (Refused (Full (s .totals)) 9 (Refused (WrongSync sf) 3 Accepted)))
 
-  state-is : (n : ℕ) → r .number ≡ n → eqb n 0 ≡ false → r .next ≡ stateUnder n s
+  in-order : InOrder number
+  unfolding takeNumber
+  in-order =
+      tested _ _ (tells-lengths sf samples marks) (tested _ _ (tells-takable radius s) (tested _ _ (tells-full (s .totals)) (tested _ _ (tells-sync sf) refl)))
+
+  pub state-is : (n : ℕ) → r .number ≡ n → eqb n 0 ≡ false → r .next ≡ stateUnder n s
   state-is n e z =
       ap (λ (r : Taken). r .next) (t .answer) ∙ ap (λ (n : ℕ). takeAnswer radius n s sf .next) (numbered ∙ e) ∙ under radius n s sf z
 
-  -- 3 is given to a state in range alone
-  ranged : r .number ≡ 3 → stateInRange s ≡ true
-  unfolding takeNumber takable
-  ranged e =
-      either-way (lengthsFit (length sf) (length samples) (length marks))
-      (λ f. either-way (takable radius s) (λ u. both-right (isRadius radius) (stateInRange s) u) (λ u. let z : number ≡ 2 = rw (f, u) in absurd (omega (arith, numbered))))
-      (λ f. let z : number ≡ 1 = rw f in absurd (omega (arith, numbered)))
+  ordered : InOrder (r .number)
+  ordered = subst InOrder numbered in-order
+
+  -- 0 and 3 are given to a state in range alone, at a radius that may be chosen, with room in its history
+  module _ (one : r .number ≢ 1) (two : r .number ≢ 2) where
+    pub ranged : stateInRange s ≡ true
+    ranged = either-way (stateInRange s) (λ u. u) (λ u. absurd (no-fault (past ordered one) two (inl (tells-state s .there u))))
+
+    pub chosen : isRadius radius ≡ true
+    chosen = either-way (isRadius radius) (λ u. u) (λ u. absurd (no-fault (past ordered one) two (inr (tells-radius radius .there u))))
+
+    pub roomy : r .number ≢ 9 → hasRoom (s .totals) ≡ true
+    roomy nine =
+        either-way (hasRoom (s .totals)) (λ u. u) (λ u. absurd (no-fault (past (past ordered one) two) nine (tells-full (s .totals) .there u)))
 
   pub take-refuses : TakeRefuses radius s sf samples marks r samples' marks'
   take-refuses =
       record {
-        order = subst (Ordered (WrongLength sf samples marks) (OutOfRange s ⊎ OtherRadius radius) (WrongSync sf)) numbered in-three;
-        given = ⊎-elim (λ e. state-is 1 e refl) (λ e. state-is 2 e refl);
-        lost = λ e. state-is 3 e refl ∙ sym (lost-next s (ranged e));
+        order = ordered;
+        given = ⊎-elim (λ e. state-is 1 e refl) (⊎-elim (λ e. state-is 2 e refl) (λ e. state-is 9 e refl));
+        lost = λ e.
+            let one : r .number ≢ 1 = λ z. omega (arith, e, z) in
+            let two : r .number ≢ 2 = λ z. omega (arith, e, z) in
+            state-is 3 e refl ∙ sym (lost-next s (ranged one two) (roomy one two (λ z. omega (arith, e, z))));
         untouched = λ h.
             let z : eqb number 0 ≡ false = ne-eqb number 0 (λ e. h (sym numbered ∙ e)) in
             (t .sound ∙ rw z, t .marked ∙ rw z);
       }
 
--- ---- losing one, and six service bytes
+-- ---- losing one, six service bytes, and a reset
+-- an answer that goes by tests, and its parts
+lost-number : (s : State) → lostWith s .number ≡ cond (stateInRange s) (cond (hasRoom (s .totals)) 0 9) 2
+unfolding lostWith
+lost-number s = either-way (stateInRange s) (λ t. either-way (hasRoom (s .totals)) (λ u. rw (t, u)) (λ u. rw (t, u))) (λ t. rw t)
+
 pub lose-refuses : (s : State) → LoseRefuses s (lostWith s)
 unfolding lostWith
 lose-refuses s =
+    record {
+      order = rw (lost-number s) (tested _ _ (tells-state s) (tested _ _ (tells-full (s .totals)) refl));
+      given =
+          either-way (stateInRange s)
+          (λ t. either-way (hasRoom (s .totals)) (λ u. rw (t, u) (λ h. absurd (h refl))) (λ u. rw (t, u) (λ _. refl)))
+          (λ t. rw t (λ _. refl));
+    }
+
+reset-number : (s : State) → resetWith s .number ≡ cond (stateInRange s) 0 2
+unfolding resetWith
+reset-number s = either-way (stateInRange s) (λ t. rw t) (λ t. rw t)
+
+pub reset-refuses : (s : State) → ResetRefuses s (resetWith s)
+unfolding resetWith
+reset-refuses s =
+    record {
+      order = rw (reset-number s) (tested _ _ (tells-state s) refl);
+      given = either-way (stateInRange s) (λ t. rw t (λ h. absurd (h refl))) (λ t. rw t (λ _. refl));
+    }
+
+pub resets : (s : State) → resetWith s .number ≡ 0 → Resets s (resetWith s)
+unfolding resetWith noRunning
+resets s =
     either-way (stateInRange s)
-    (λ t. rw t (record { order = in-order true true true tells-nothing (subst (Tells (OutOfRange s)) t (tells-state s)) tells-nothing; given = λ e. absurd (omega arith) }))
-    (λ t. rw t (record { order = in-order true false true tells-nothing (subst (Tells (OutOfRange s)) t (tells-state s)) tells-nothing; given = λ e. refl }))
+    (λ t. rw t (λ _. record { taken = refl; lost = refl; clean = refl; mended = refl; bad = refl; factors = refl; service = refl }))
+    (λ t. rw t (λ e. absurd (omega (arith, e))))
 
 sync-number : (k : Kind) → numberOf k ≢ 2
 sync-number First e = omega arith
@@ -190,14 +231,14 @@ unfolding served accepts refusedService
 machine s six sync h =
     either-way (allBelow 2 sync)
     (λ t.
-    rw (service s h, t)
+    rw (service-in-range s h, t)
     (record {
       two = ⊎-elim (λ o. absurd (within s h o)) (λ n. absurd (bits-all t n));
       only = λ e. absurd (sync-number (kindOf sync) e);
       given = λ e. absurd (sync-number (kindOf sync) e);
     }))
     (λ t.
-    rw (service s h, t)
+    rw (service-in-range s h, t)
     (record { two = λ f. refl; only = λ e. inr (let m = some-above 1 sync t in no-bit (m .place) (m .above)); given = λ e. refl }))
   where
     bits-all : allBelow 2 sync ≡ true → NoBits sync → ⊥

@@ -1,5 +1,5 @@
 -- Laws of taking a superframe.
---     lost-next         the state after a loss, where the state is in its range
+--     lost-next         the state after a loss, where the state is in its range and its history has room
 --     good-fill, lost-fill      two lists of their lengths that were to be filled: with every sync in order, or with one that is not
 --     refused-took      a refusal meets the promise: nothing is written
 --     answered-took     and so does an answer, with both lists filled
@@ -16,6 +16,7 @@ use Rattle.bits.proofs.Tests.{either-way}
 use borrow.Author.Tests.{eq-eqb}
 use Rattle.reading.specs.Reading.{isRadius}
 use Rattle.tape.specs.Tape.{synced, wrongBits, blocksOf, refusedCounts, countedWith, syncNumber}
+use Rattle.running.specs.Running.{hasRoom}
 use Rattle.sound.specs.Sound.{samplesOf, marksOf, lengthsFit, fillNumber, Filled}
 use Rattle.sound.proofs.Samples.{fits}
 use Rattle.tape.specs.declared.blocks.Counted.{Counted}
@@ -24,9 +25,9 @@ use Rattle.superframe.specs.Take.{takeNumber, besideWith, refusedWith, s
 use Rattle.superframe.specs.declared.state.State.{State}
 use Rattle.superframe.specs.declared.taking.Taken.{Taken}
 
-pub lost-next : (s : State) → stateInRange s ≡ true → lostWith s .next ≡ lostState s
+pub lost-next : (s : State) → stateInRange s ≡ true → hasRoom (s .totals) ≡ true → lostWith s .next ≡ lostState s
 unfolding lostWith
-lost-next s e = rw e
+lost-next s e r = rw (e, r)
 
 module _ (radius : ℕ) (chosen : isRadius radius ≡ true) (sf factors : List ℕ) (samples : List ℤ) (marks : List ℕ) (r : Counted) (samples' : List ℤ) (marks' : List ℕ)
     (f : Filled radius sf factors samples marks r samples' marks') (fit : lengthsFit (length sf) (length samples) (length marks) ≡ true) where

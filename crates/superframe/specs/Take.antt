@@ -1,12 +1,13 @@
--- Taking a superframe (document 01, "Superframe", "Numbers given"; document 02, P9).
+-- Taking a superframe (document 01, "Superframe", "Numbers given"; document 02, P7 and P9).
 --     takable radius s      the radius is 2 or 3, and the state in its range
 --     takeNumber radius s sf samples marks
---                           the number: 1 for a wrong length, then 2 for another radius or a state out of range, then 3 for a wrong sync, else 0
+--                           the number: 1 for a wrong length, then 2 for another radius or a state out of range, then 9 for a full history, then 3 for a
+--                           wrong sync, else 0
 --     takenFactors s sf     the factors move on by one, and those read hold for the superframe after the next
---     besideWith s sf w b   the answer where nothing is refused, with w wrong bits in its syncs and the readings counted as b
+--     besideWith s sf w b   the answer where nothing is refused, with w wrong bits in its syncs and the readings counted as b, which the totals grow by
 --     noProgrammes          of a refused superframe: zeros
 --     refusedWith n s       number n, zeros, and a state
---     stateUnder n s        the state that comes back with a refusal: with 3 that after one lost superframe, with 1 and 2 the one given
+--     stateUnder n s        the state that comes back with a refusal: with 3 that after one lost superframe, with 1, 2 and 9 the one given
 --     takeAnswer radius n s sf      the answer by its number
 --     Took radius s sf samples marks r samples' marks'
 --                           THE PROMISE: the answer, and what the two lent lists then hold; refused, they are untouched
@@ -22,6 +23,7 @@ use Rattle.reading.specs.Reading.{isRadius}
 use Rattle.service.specs.Service.{served}
 use Rattle.service.specs.declared.Served.{Served}
 use Rattle.tape.specs.Tape.{synced, wrongBits, blocksOf, noBlocks}
+use Rattle.running.specs.Running.{hasRoom, withTaken}
 use Rattle.sound.specs.Sound.{samplesOf, marksOf, lengthsFit}
 use Rattle.beside.specs.Beside.{programmesOf, sixAndSync}
 use Rattle.tape.specs.declared.blocks.Blocks.{Blocks}
@@ -35,7 +37,7 @@ takable radius s = cond (isRadius radius) (stateInRange s) false
 
 unfoldable pub takeNumber : ℕ → State → List ℕ → List ℤ → List ℕ → ℕ
 takeNumber radius s sf samples marks =
-    cond (lengthsFit (length sf) (length samples) (length marks)) (cond (takable radius s) (cond (synced sf) 0 3) 2) 1
+    cond (lengthsFit (length sf) (length samples) (length marks)) (cond (takable radius s) (cond (hasRoom (s .totals)) (cond (synced sf) 0 3) 9) 2) 1
 
 abbrev pub takenFactors : State → List ℕ → Factors
 takenFactors s sf = record { next = s .after; after = programmesOf sf .factors }
@@ -47,7 +49,7 @@ unfoldable pub besideWith : State → List ℕ → ℕ → Blocks → Taken
 besideWith s sf w b =
     record {
       number = 0;
-      next = joinedState (takenFactors s sf) (servedIn s sf .next);
+      next = joinedState (takenFactors s sf) (servedIn s sf .next) (withTaken (s .totals) b);
       wrong = w;
       blocks = b;
       programmes = programmesOf sf;

@@ -3,6 +3,7 @@ mod state;
 mod taking;
 
 pub use state::Lost;
+pub use state::Reset;
 pub use state::Serviced;
 pub use state::State;
 pub use taking::Taken;

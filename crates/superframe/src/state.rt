@@ -1,6 +1,7 @@
-// The reader's state, which goes in and comes back with the answer: fresh, after a lost superframe, after six service bytes.
+// The reader's state, which goes in and comes back with the answer: fresh, after a lost superframe, after six service bytes, with a new history.
 ghost use mathlib.Core.Path.{_≡_};
-ghost use Rattle.superframe.specs.State.{joinedState, freshState, serviceOf, factorsInRange, stateInRange, lostWith, servicedWith};
+ghost use Rattle.superframe.specs.State.{joinedState, freshState, serviceOf, factorsInRange, stateInRange, lostWith, servicedWith, resetWith};
+use running::Running;
 use service::Service;
 
 pub struct State {
@@ -16,10 +17,19 @@ pub struct State {
     pub stage: u8,
     // 32 labels of eight characters, those before the stage
     pub labels: [u8; 256],
+    // since the last reset (document 02, P7)
+    pub totals: Running,
 }
 
 // The answer to a lost superframe.
 pub struct Lost {
+    // 0; 2: a state out of range; 9: a full history
+    pub number: u8,
+    pub next: State,
+}
+
+// The answer to a reset.
+pub struct Reset {
     // 0; 2: refused
     pub number: u8,
     pub next: State,
@@ -52,9 +62,9 @@ pub(crate) fn service_of(state: State) -> Service
     }
 }
 
-// A state from its two parts.
-pub(crate) fn joined(next: [u8; 32], after: [u8; 32], service: Service) -> State
-    ensures { λ r. ⌜ r ≡ joinedState (record { next = next; after = after }) service ⌝ }
+// A state from its parts.
+pub(crate) fn joined(next: [u8; 32], after: [u8; 32], service: Service, totals: Running) -> State
+    ensures { λ r. ⌜ r ≡ joinedState (record { next = next; after = after }) service totals ⌝ }
 {
     let group = service.group;
     let labels = service.labels;
@@ -65,6 +75,7 @@ pub(crate) fn joined(next: [u8; 32], after: [u8; 32], service: Service) -> State
         group,
         stage: service.stage,
         labels,
+        totals,
     }
 }
 
@@ -78,11 +89,11 @@ fn factors_in_range(next: [u8; 32], after: [u8; 32]) -> bool
 }
 
 impl State {
-    // Both sets of factors missing, the service searching.
+    // Both sets of factors missing, the service searching, nothing counted.
     pub fn fresh() -> Self
         ensures { λ r. ⌜ r ≡ freshState ⌝ }
     {
-        joined([8u8; 32], [8u8; 32], service::searching())
+        joined([8u8; 32], [8u8; 32], service::searching(), Running::none())
     }
 
     // Whether every number is in its range.
@@ -91,13 +102,17 @@ impl State {
     {
         let next = self.next;
         let after = self.after;
-        if factors_in_range(next, after) {
-            return service::in_range(service_of(self));
+        if !factors_in_range(next, after) {
+            return false;
         }
-        false
+        if !service::in_range(service_of(self)) {
+            return false;
+        }
+        let totals = self.totals;
+        totals.in_range()
     }
 
-    // One superframe is lost: the factors move on, and the service searches.
+    // One superframe is lost: the factors move on, the service searches, and it is counted.
     pub fn lose(self) -> Lost
         ensures { λ r. ⌜ r ≡ lostWith self ⌝ }
     {
@@ -107,8 +122,17 @@ impl State {
                 next: self,
             };
         }
+        let totals = self.totals;
+        if !totals.has_room() {
+            return Lost {
+                number: 9,
+                next: self,
+            };
+        }
         let moved = self.after;
-        let state = joined(moved, [8u8; 32], service::searching());
+        let counted = totals.lose();
+        let totals = counted.next;
+        let state = joined(moved, [8u8; 32], service::searching(), totals);
         Lost {
             number: 0,
             next: state,
@@ -133,13 +157,33 @@ impl State {
         let after = self.after;
         let service = served.next;
         let labels = served.labels;
-        let state = joined(next, after, service);
+        let totals = self.totals;
+        let state = joined(next, after, service, totals);
         Serviced {
             number: served.number,
             position: served.position,
             complete: served.complete,
             labels,
             next: state,
+        }
+    }
+
+    // A new history begins at this point; everything else of the state stays.
+    pub fn reset(self) -> Reset
+        ensures { λ r. ⌜ r ≡ resetWith self ⌝ }
+    {
+        if !self.in_range() {
+            return Reset {
+                number: 2,
+                next: self,
+            };
+        }
+        let next = self.next;
+        let after = self.after;
+        let anew = joined(next, after, service_of(self), Running::none());
+        Reset {
+            number: 0,
+            next: anew,
         }
     }
 }

@@ -1,6 +1,7 @@
 // A superframe is taken at a radius (document 02, P9): its samples and marks go into two lent slices, and the state comes back with the answer.
 ghost use mathlib.Core.Path.{_≡_};
 ghost use lib.ListN.{length};
+ghost use Rattle.running.specs.Running.{stepNumber};
 ghost use Rattle.superframe.specs.Take.{takable, besideWith, refusedWith, Took};
 use super::state;
 use super::state::State;
@@ -9,7 +10,7 @@ use tape::Blocks;
 
 // The answer to a superframe. Refused, all but the number and the state is 0.
 pub struct Taken {
-    // 0; 1: a wrong length; 2: a state out of range, or another radius than 2 or 3; 3: a wrong sync
+    // 0; 1: a wrong length; 2: a state out of range, or another radius than 2 or 3; 9: a full history; 3: a wrong sync
     pub number: u8,
     pub next: State,
     // how many bits of its 128 syncs are wrong
@@ -66,6 +67,7 @@ fn can_take(radius: u8, state: State) -> bool
 // All that is answered beside the samples and marks, with wrong sync bits and readings already counted.
 fn answered(state: State, bytes: &[u8], wrong: u16, blocks: Blocks) -> Taken
     requires { ⌜ length (now bytes) ≡ 5120 ⌝ }
+    requires { ⌜ stepNumber (state .totals) ≡ 0 ⌝ }
     ensures { λ r. ⌜ r ≡ besideWith state (now (bytes .entry)) wrong blocks ⌝ }
 {
     let programmes = beside::programmes_of(bytes);
@@ -77,7 +79,10 @@ fn answered(state: State, bytes: &[u8], wrong: u16, blocks: Blocks) -> Taken
     let read = programmes.factors;
     let service = served.next;
     let labels = served.labels;
-    let next = state::joined(moved, read, service);
+    let given = state.totals;
+    let counted = given.take(blocks);
+    let totals = counted.next;
+    let next = state::joined(moved, read, service, totals);
     Taken {
         number: 0,
         next,
@@ -102,6 +107,10 @@ impl State {
         }
         if !can_take(radius, self) {
             return refused(2, self);
+        }
+        let totals = self.totals;
+        if !totals.has_room() {
+            return refused(9, self);
         }
         let factors = self.next;
         let counted = sound::fill(radius, bytes, &factors, samples, marks);

@@ -3,21 +3,21 @@
 --     sync-order            the number of the bytes alone: 1 for another length, then 3 for a wrong sync
 --     counts-order, refused-empty     so counting refuses, and counts nothing then
 -- Assumes nothing.
-use mathlib.Core.Path.{_≡_, refl, sym, ap, subst, _∙_}
-use mathlib.Core.Bool.{true, false, true≢false, cond}
+use mathlib.Core.Path.{_≡_, refl, sym, subst, _∙_}
+use mathlib.Core.Bool.{true, false, true≢false}
 use mathlib.Core.Logic.{_≢_}
 use mathlib.Core.List.{List}
 use Prim.Native.Nat.{ℕ, _<_}
 use native.Mathlib.Omega.{arith}
 use borrow.Author.Tests.{leb-false}
 use lib.Dec.{eqb, leb}
-use lib.ListN.{length, getD}
+use lib.ListN.{length}
 use Rattle.bits.specs.Table.{tabulate}
-use Rattle.bits.specs.Order.{Ordered}
+use Rattle.bits.specs.Order.{Refused, Accepted}
 use Rattle.bits.proofs.Table.{length-tab, getD-tab}
 use Rattle.bits.proofs.Tests.{either-way}
 use Rattle.bits.proofs.Every.{every-missed}
-use Rattle.bits.proofs.Order.{Tells, tells-nothing, tells-length, in-order}
+use Rattle.bits.proofs.Order.{Tells, tells-length, tested}
 use Rattle.reading.specs.Reading.{ordinary}
 use Rattle.frame.specs.Read.{mostWrong}
 use Rattle.tape.specs.Tape.{wrongAt, synced, noBlocks, refusedCounts, countedWith, syncNumber, countsOf}
@@ -38,17 +38,17 @@ module _ (sf : List ℕ) where
   pub tells-sync : Tells (WrongSync sf) (synced sf)
   tells-sync = record { there = found; away = none }
 
-  pub sync-order : Ordered (length sf ≢ 5120) ⊥ (WrongSync sf) (syncNumber sf)
+  pub sync-order : Refused (length sf ≢ 5120) 1 (Refused (WrongSync sf) 3 Accepted) (syncNumber sf)
   unfolding syncNumber
-  sync-order = in-order (eqb (length sf) 5120) true (synced sf) (tells-length (length sf) 5120) tells-nothing tells-sync
+  sync-order = tested _ _ (tells-length (length sf) 5120) (tested _ _ tells-sync refl)
 
   counted-number : (radius n : ℕ) → countedWith radius n sf .number ≡ n
   unfolding countedWith refusedCounts
   counted-number radius n = either-way (eqb n 0) (λ t. rw t (sym (borrow.Author.Tests.eqb-true n 0 t))) (λ t. rw t)
 
-  pub counts-order : Ordered (length sf ≢ 5120) ⊥ (WrongSync sf) (countsOf sf .number)
+  pub counts-order : Refused (length sf ≢ 5120) 1 (Refused (WrongSync sf) 3 Accepted) (countsOf sf .number)
   unfolding countsOf
-  counts-order = subst (Ordered (length sf ≢ 5120) ⊥ (WrongSync sf)) (sym (counted-number ordinary (syncNumber sf))) sync-order
+  counts-order = subst (Refused (length sf ≢ 5120) 1 (Refused (WrongSync sf) 3 Accepted)) (sym (counted-number ordinary (syncNumber sf))) sync-order
 
   pub refused-empty : (countsOf sf .number ≢ 0) → (countsOf sf .wrong ≡ 0) × (countsOf sf .blocks ≡ noBlocks)
   unfolding countsOf countedWith refusedCounts

@@ -5,6 +5,7 @@
 --     blocks-all            64 blocks are counted in each of the eight positions
 --     carries-there         a block on tape carries programme q exactly where it stands in the position of q
 --     programme-counted     what is counted in the position of programme q are the blocks on tape that carry it
+--     programmes-twice      so the sixteen programmes have each block twice
 -- Assumes nothing.
 use mathlib.Core.Path.{_≡_, refl, sym, ap, _∙_}
 use mathlib.Core.Bool.{Bool, false, cond}
@@ -206,3 +207,24 @@ module _ (radius : ℕ) (sf : List ℕ) (k q : ℕ) (low : 1 ≤ q) (high : q �
       ∙ sym (one-counts 8 here (inPosition so) ∙ rw (lt-ltb here 8 (omega arith)))
       ∙ sym (sum-same 8 (inPosition carried-so) (λ p. cond (eqb p here) (inPosition so p) 0) in-place)
       ∙ positions-sum carried-so
+
+twice : (g : ℕ → ℕ) → sumTo 16 (λ i. g (i / 2)) ≡ 2 * sumTo 8 g
+unfolding sumTo
+twice g = omega arith
+
+module _ (radius : ℕ) (sf : List ℕ) (k : ℕ) where
+  abbrev of-kind : ℕ → Bool
+  of-kind t = eqb (kindOf (getD (readings radius sf) t bad)) k
+
+  in-its-position : (i : ℕ) → i < 16 → programmeBlocks radius k (i + 1) sf ≡ inPosition of-kind (i / 2)
+  unfolding kindIn readingIn
+  in-its-position i l =
+      let from-one : i + 1 - 1 ≡ i = omega arith in
+      sym (programme-counted radius sf k (i + 1) (omega arith) (omega arith))
+      ∙ tally-at radius sf k ((i + 1 - 1) / 2) (omega arith)
+      ∙ ap (λ (j : ℕ). inPosition of-kind (j / 2)) from-one
+
+  pub programmes-twice : sumTo 16 (λ i. programmeBlocks radius k (i + 1) sf) ≡ 2 * howMany 512 of-kind
+  programmes-twice =
+      sum-same 16 (λ i. programmeBlocks radius k (i + 1) sf) (λ i. inPosition of-kind (i / 2)) in-its-position
+      ∙ twice (inPosition of-kind) ∙ ap (λ (n : ℕ). 2 * n) (positions-sum of-kind)

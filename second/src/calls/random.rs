@@ -1,8 +1,8 @@
 //! Random call lines: good, at the edges, damaged and out of range.
 
 use super::{
-    between, blocks, drawn_radius, part_way, sent, service, spoil, state, superframes, turn,
-    written, FIELDS,
+    between, blocks, drawn_radius, part_way, sent, service, spoil, state, superframes, totals,
+    turn, written, FIELDS,
 };
 use crate::answer::{hex_or_dash, state_text, MOST_BYTES, MOST_RUN, MOST_SAMPLES, MOST_SWEPT};
 use crate::bits::{self, Bit};
@@ -14,6 +14,7 @@ use crate::scale::{COPIES, EXTRA, WORD};
 use crate::service::{CHANNELS, SYNC_1, SYNC_2};
 use crate::superframe::{self, State, MISSING};
 use crate::text;
+use crate::totals::MOST;
 use crate::word::PROTECTED;
 
 /// `count` random lines.
@@ -107,9 +108,10 @@ fn run(random: &mut Random) -> String {
 }
 
 fn state_call(random: &mut Random) -> String {
-    match random.percent(20) {
-        true => format!("lose {}", state_text(&random_state(random))),
-        false => random_service(random),
+    match random.below(10) {
+        0 | 1 => format!("lose {}", state_text(&random_state(random))),
+        2 => format!("reset {}", state_text(&random_state(random))),
+        _ => random_service(random),
     }
 }
 
@@ -299,12 +301,18 @@ fn header(random: &mut Random) -> String {
     format!("header {}", hex_or_dash(&bytes))
 }
 
-/// One time in five out of range.
+/// One time in five out of range. The totals are mostly of any history, else of none or few superframes, of as many as there can be or
+/// of one less.
 fn random_state(random: &mut Random) -> State {
     let position = random.one_of(&[0, 1, 2, 3, 4, 5, 6, 7, 8, 8, 8, 8]);
     let stage = random.one_of(&[0, 0, 0, 1, 2, 3, 4, 5, 6, 7, 8, 8]);
     let zero = random.percent(40);
     let mut state = state(random, position, stage, zero);
+    let few = random.below(100);
+    let edge = [0, few, MOST - 1, MOST, MOST];
+    if let Some(given) = edge.get(random.index(20)) {
+        state.totals = totals::of_given(random, *given);
+    }
     let wrong = random.one_of(&[MISSING + 1, 10, 127, 128, 255]);
     let field = random.below(5 * FIELDS);
     spoil(&mut state, field, random.index(CHANNELS), wrong);

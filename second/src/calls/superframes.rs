@@ -1,6 +1,6 @@
 //! Call lines that take a superframe: every refusal in its order, every edge, and random ones.
 
-use super::{drawn_radius, spoil, state, FIELDS, NO_RADII};
+use super::{drawn_radius, spoil, state, totals, FIELDS, NO_RADII};
 use crate::answer::state_text;
 use crate::bits::{self, Bit};
 use crate::frame::{self, SYNC};
@@ -11,9 +11,16 @@ use crate::service::{CHANNELS, SYNC_1, SYNC_2};
 use crate::superframe::{self, State, FRAMES, MISSING};
 use crate::taking::{Lengths, MOST_BYTES, MOST_LENT};
 use crate::text;
+use crate::totals::MOST;
 
 /// In the second byte of a main frame: too many wrong bits for a sync.
 const LAST_THREE_SYNC_BITS: u8 = 0xe0;
+
+/// The second byte of the last main frame.
+const LAST_FRAME: u16 = (superframe::BYTES - frame::BYTES + 1) as u16;
+
+/// The fields of a state that are no totals.
+const FEW_FIELDS: u64 = 4;
 
 /// One bit away from both syncs.
 const NEITHER: &str = "0000010111011111";
@@ -75,6 +82,8 @@ fn service(six: [u8; 6], sync: &[Bit]) -> [u8; 8] {
 pub fn all() -> impl Iterator<Item = String> {
     let parts = [
         refusals_in_order(),
+        full_in_order(),
+        every_total(),
         length_edges(),
         every_sync(),
         at_both_radii(every_position()),
@@ -115,11 +124,11 @@ fn refusals_in_order() -> Vec<Asked> {
     ];
     let mut all = Vec::new();
     for lengths in lengths {
-        for field in 0..=FIELDS {
+        for field in (0..FEW_FIELDS).chain([FIELDS]) {
             let mut asked = Asked::good(&[1, field]);
             asked.lengths = lengths;
             spoil(&mut asked.state, field, CHANNELS - 1, MISSING + 1);
-            asked.recipe.place = (superframe::BYTES - frame::BYTES + 1) as u16;
+            asked.recipe.place = LAST_FRAME;
             for radius in [&radius::BOTH[..], &NO_RADII].concat() {
                 asked.radius = radius;
                 for turned in [0, LAST_THREE_SYNC_BITS] {
@@ -127,6 +136,48 @@ fn refusals_in_order() -> Vec<Asked> {
                     all.push(asked.clone());
                 }
             }
+        }
+    }
+    all
+}
+
+/// The same with a full history and without, and every total too large; one length, and one number that is no radius.
+fn full_in_order() -> Vec<Asked> {
+    let fulls = (0..=FIELDS).map(|field| (true, field));
+    let others = (FEW_FIELDS..FIELDS).map(|field| (false, field));
+    let mut all = Vec::new();
+    for (full, field) in fulls.chain(others) {
+        let mut asked = Asked::good(&[9, field]);
+        if full {
+            asked.state.totals.lost = MOST as u32 - asked.state.totals.taken;
+        }
+        spoil(&mut asked.state, field, 0, MISSING + 1);
+        asked.recipe.place = LAST_FRAME;
+        for radius in [radius::BOTH[(field % 2) as usize], radius::WIDE + 1] {
+            asked.radius = radius;
+            for samples in [Lengths::RIGHT.samples, Lengths::RIGHT.samples - 1] {
+                asked.lengths.samples = samples;
+                for turned in [0, LAST_THREE_SYNC_BITS] {
+                    asked.recipe.turned = turned;
+                    all.push(asked.clone());
+                }
+            }
+        }
+    }
+    all
+}
+
+/// The totals of every edge, with right syncs and a wrong one.
+fn every_total() -> Vec<Asked> {
+    let mut all = Vec::new();
+    for (n, totals) in totals::edges().into_iter().enumerate() {
+        let mut asked = Asked::good(&[10, n as u64]);
+        asked.radius = radius::BOTH[n % 2];
+        asked.state.totals = totals;
+        asked.recipe.place = LAST_FRAME;
+        for turned in [0, LAST_THREE_SYNC_BITS] {
+            asked.recipe.turned = turned;
+            all.push(asked.clone());
         }
     }
     all
@@ -251,10 +302,12 @@ fn longest() -> Vec<Asked> {
         marks: MOST_LENT,
     };
     asked.recipe.seed = u32::MAX;
+    asked.state.totals.taken = u32::MAX;
+    asked.state.totals.lost = u32::MAX;
     vec![asked]
 }
 
-/// A line with one word that is not of its kind, each in its turn, and one without a radius.
+/// A line with one word that is not of its kind, each in its turn, one without a radius and one without totals.
 pub fn unreadable() -> impl Iterator<Item = String> {
     let good = Asked::good(&[7]).line();
     let wrong = [
@@ -267,14 +320,23 @@ pub fn unreadable() -> impl Iterator<Item = String> {
         (4, "4097"),
         (5, "4294967296"),
         (6, "00"),
+        (13, "4294967296"),
+        (13, "-1"),
+        (14, "4294967296"),
+        (14, "00"),
+        (15, "00"),
+        (16, "00"),
+        (17, "00"),
     ];
-    let without = good.replacen("take 2 ", "take ", 1);
+    let no_radius = good.replacen("take 2 ", "take ", 1);
+    let words: Vec<&str> = good.split(' ').collect();
+    let no_totals = words[..13].join(" ");
     let one_wrong = wrong.into_iter().map(move |(n, word)| {
         let mut words: Vec<&str> = good.split(' ').collect();
         words[n] = word;
         words.join(" ")
     });
-    one_wrong.chain([without])
+    one_wrong.chain([no_radius, no_totals])
 }
 
 /// A random line: mostly taken, else with a wrong length, no radius, a state out of range, a wrong sync, or several of them.

@@ -1,6 +1,6 @@
 //! Call lines that go through everything there is, or through every edge.
 
-use super::{blocks, scales, service, state, superframes};
+use super::{blocks, scales, service, state, superframes, totals};
 use crate::answer::{state_text, MOST_RUN, MOST_SWEPT};
 use crate::bits;
 use crate::random::Random;
@@ -13,7 +13,7 @@ type Lines = Box<dyn Iterator<Item = String>>;
 
 /// Everything that can be gone through: all programme bytes, names and modes, all samples and codes at
 /// all factors, all scale words, all choices of at most two wrong places of them and of at most three of a block,
-/// and the edges of headers, runs, factors, states and superframes.
+/// and the edges of headers, runs, factors, states, totals and superframes.
 pub fn all() -> impl Iterator<Item = String> {
     let parts: Vec<Lines> = vec![
         Box::new((0..=255).map(|byte| format!("pread {byte}"))),
@@ -27,6 +27,7 @@ pub fn all() -> impl Iterator<Item = String> {
         Box::new(header_edges()),
         Box::new(run_edges()),
         Box::new(service_edges()),
+        Box::new(totals::all()),
         Box::new(["fresh".to_string()].into_iter()),
         Box::new(superframes::all()),
         Box::new(unreadable()),
@@ -125,6 +126,9 @@ fn service_edges() -> impl Iterator<Item = String> {
                 lines.push(service(&state, &six, &bits::of_text(sync)));
             }
             lines.push(format!("lose {}", state_text(&state)));
+            if !zero {
+                lines.push(format!("reset {}", state_text(&state)));
+            }
         }
         lines
     })
@@ -173,6 +177,8 @@ fn unreadable() -> impl Iterator<Item = String> {
         "fresh 0",
         "lose",
         "lose 00",
+        "reset",
+        "reset 00",
         "service",
         "take",
         "take 2 5120 2048 2048",

@@ -13,16 +13,21 @@ fn answers() {
     let cleared = format!("{}00000000011101010001{}", zeros(43), zeros(14));
     let five = format!("{}00000000001101010001{}", zeros(43), zeros(14));
     let z77 = zeros(77);
-    let fresh = format!(
-        "{} {} 00 00 {} {}",
-        "08".repeat(32),
-        "08".repeat(32),
-        zeros(64),
-        zeros(512)
-    );
+    let (none, of_16) = ("08".repeat(32), zeros(128));
+    let six_words = format!("{none} {none} 00 00 {} {}", zeros(64), zeros(512));
+    let fresh = format!("{six_words} 0 0 {of_16} {of_16} {of_16}");
     let wrong = fresh.replacen("08", "09", 1);
     let opened = fresh.replacen(" 00 00 ", " 01 00 ", 1);
     let last = fresh.replacen(" 00 00 ", " 08 08 ", 1);
+    // Two taken, with 1 to 16 blocks mended and none bad, and so many lost; the last programme with one more.
+    let row = |number: fn(u32) -> u32| -> String {
+        let numbers = (1..=16).map(|p| format!("{:08x}", number(p)));
+        numbers.collect()
+    };
+    let (clean, mended) = (row(|p| 128 - p), row(|p| p));
+    let more = format!("{}11", &mended[..126]);
+    let counted = |lost: u64| format!("{six_words} 2 {lost} {clean} {mended} {of_16}");
+    let off = |lost: u64| format!("{six_words} 2 {lost} {clean} {more} {of_16}");
     // Channels 29 to 32 have 1, 2, 3, 4 as their last character.
     let label = |channel: u8| format!("{}{:02x}", zeros(14), channel.saturating_sub(28));
     let labels: String = (1..=32).map(label).collect();
@@ -168,8 +173,50 @@ fn answers() {
         ("part 10240 3".to_string(), "2 0".to_string()),
         ("part 10241 0".to_string(), "1 0".to_string()),
         ("fresh".to_string(), format!("0 {fresh}")),
-        (format!("lose {last}"), format!("0 {fresh}")),
+        (
+            format!("lose {last}"),
+            format!("0 {}", fresh.replacen(" 0 0 ", " 0 1 ", 1)),
+        ),
         (format!("lose {wrong}"), format!("2 {wrong}")),
+        (format!("lose {}", counted(9)), format!("0 {}", counted(10))),
+        (
+            format!("lose {}", counted(999_997)),
+            format!("0 {}", counted(999_998)),
+        ),
+        (
+            format!("lose {}", counted(999_998)),
+            format!("9 {}", counted(999_998)),
+        ),
+        (
+            format!("lose {}", counted(999_999)),
+            format!("2 {}", counted(999_999)),
+        ),
+        (
+            format!("lose {}", counted(4_294_967_295)),
+            format!("2 {}", counted(4_294_967_295)),
+        ),
+        (format!("lose {}", off(9)), format!("2 {}", off(9))),
+        (
+            format!("lose {}", off(999_998)),
+            format!("2 {}", off(999_998)),
+        ),
+        (format!("reset {last}"), format!("0 {last}")),
+        (format!("reset {wrong}"), format!("2 {wrong}")),
+        (format!("reset {}", counted(9)), format!("0 {fresh}")),
+        (format!("reset {}", counted(999_998)), format!("0 {fresh}")),
+        (
+            format!("reset {}", counted(999_999)),
+            format!("2 {}", counted(999_999)),
+        ),
+        (format!("reset {}", off(0)), format!("2 {}", off(0))),
+        (
+            format!("service {} 010203040506 0000010111001110", counted(999_998)),
+            format!("0 0 7 - {}", counted(999_998)),
+        ),
+        (
+            format!("service {} 010203040506 0000010111001111", off(1)),
+            format!("2 {}", off(1)),
+        ),
         (
             format!("service {fresh} 010203040506 0000010111001111"),
             format!("0 0 0 - {opened}"),
@@ -222,7 +269,7 @@ fn lines_cover_the_surface() {
             seen.push(number);
         }
     }
-    assert_eq!(longest, (776, 1986));
+    assert_eq!(longest, (1185, 2788));
     for (name, expected) in [
         ("bwrite", "02"),
         ("bread", "02"),
@@ -244,9 +291,10 @@ fn lines_cover_the_surface() {
         ("run", "01"),
         ("part", "012"),
         ("fresh", "0"),
-        ("lose", "02"),
+        ("lose", "029"),
+        ("reset", "02"),
         ("service", "02"),
-        ("take", "0123"),
+        ("take", "01239"),
     ] {
         for number in expected.chars() {
             let seen = &numbers[name];

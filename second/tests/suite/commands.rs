@@ -41,6 +41,7 @@ fn unknown_words_get_a_message() {
         "check 1",
         "answer 1",
         "transcript 2 3",
+        "totals 2 3",
         "hand-on",
         "hand-on folder name",
         "hand-on folder name commit 2 3",
@@ -58,6 +59,7 @@ fn no_radius_gets_a_message() {
         let said = format!("second: a radius is 2 or 3, not '{word}'\n");
         for words in [
             format!("transcript {word}"),
+            format!("totals {word}"),
             format!("hand-on {folder} name commit {word}"),
         ] {
             let (status, output, message) = run_and_hear(&words, &reel);
@@ -84,6 +86,24 @@ fn transcripts_at_both_radii() {
     assert_eq!(lines(wide, "blocks 0 512 0"), 3);
     let (_, listing, _) = run("listing", &reel);
     assert!(listing.ends_with(b"mended 0\nbad 1536\nend ok\n"));
+}
+
+#[test]
+fn totals_at_both_radii() {
+    let (_, reel, _) = run("make 1 3 places=3 sync=3@2", b"");
+    let text = |blocks: &str| {
+        let lines = (1..=16).map(|p| format!("programme {p} {blocks}\n"));
+        let lines: String = lines.collect();
+        format!("superframes 3\nlost 1\n{lines}end ok\n").into_bytes()
+    };
+    let bad = (Some(0), text("clean 0 mended 0 bad 128"), false);
+    let mended = (Some(0), text("clean 0 mended 128 bad 0"), false);
+    assert_eq!(run("totals", &reel), bad);
+    assert_eq!(run("totals 2", &reel), bad);
+    assert_eq!(run("totals 3", &reel), mended);
+    let refused = (Some(0), b"refused 8\n".to_vec(), false);
+    assert_eq!(run("totals", b"no reel"), refused);
+    assert_eq!(run("totals 3", b""), refused);
 }
 
 #[test]

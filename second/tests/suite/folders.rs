@@ -87,8 +87,8 @@ fn files_of_the_folder() {
             names.push(format!("{programme:02}.{kind}"));
         }
     }
-    for text in ["about.txt", "listing.txt", "names.txt", "words.txt"] {
-        names.push(text.to_string());
+    for text in ["about", "listing", "names", "totals", "words"] {
+        names.push(format!("{text}.txt"));
     }
     let found: Vec<&String> = handed.files.keys().collect();
     assert_eq!(found, names.iter().collect::<Vec<_>>());
@@ -157,6 +157,31 @@ fn assert_as_the_transcript(radius: u8, reel: &[u8]) {
     assert_eq!(words.matches("lost").count(), 1);
     assert_eq!(handed.text("words.txt"), words);
     assert_eq!(handed.text("listing.txt"), listing(reel));
+    // Each of the blocks that the transcript counts is one of two programmes.
+    let sum = |kind: usize| -> u64 {
+        let lines = transcript_at(radius, reel);
+        let counts = lines
+            .lines()
+            .filter_map(|line| line.strip_prefix("blocks "));
+        counts
+            .map(|line| line.split(' ').nth(kind).unwrap().parse::<u64>().unwrap())
+            .sum()
+    };
+    let totals = |kind: usize| -> u64 {
+        let lines = handed.text("totals.txt").lines().skip(2).take(16);
+        lines
+            .map(|line| {
+                line.split(' ')
+                    .nth(3 + 2 * kind)
+                    .unwrap()
+                    .parse::<u64>()
+                    .unwrap()
+            })
+            .sum()
+    };
+    for kind in 0..3 {
+        assert_eq!(totals(kind), 2 * sum(kind));
+    }
 }
 
 /// Blocks with three wrong places: at radius 2 bad and to be heard, at radius 3 mended and no trouble. The listing is the same.
@@ -189,6 +214,16 @@ fn three_wrong_places_at_each_radius() {
         let about = format!("reel some.reel\nradius {radius}\ncommit 0123abcd\n");
         assert_eq!(handed.text("about.txt"), about);
         assert_eq!(handed.text("listing.txt"), listing);
+        // 64 of 256 in each of the two superframes.
+        let mut totals = "superframes 4\nlost 0\n".to_string();
+        for p in 1..=16 {
+            totals += &match (p, radius) {
+                (11 | 12, 2) => format!("programme {p} clean 128 mended 0 bad 128\n"),
+                (11 | 12, _) => format!("programme {p} clean 128 mended 128 bad 0\n"),
+                _ => format!("programme {p} clean 256 mended 0 bad 0\n"),
+            };
+        }
+        assert_eq!(handed.text("totals.txt"), totals + "end ok\n");
         // Mended, the sound is that of the zeros that were sent.
         let sound = &handed.files["11.wav"][44..];
         assert_eq!(sound.iter().all(|byte| *byte == 0), radius == 3);
@@ -288,6 +323,13 @@ fn short_reel() {
         assert_eq!(handed.end, End::Short);
         assert_eq!(handed.text("listing.txt"), listing(cut));
         assert!(handed.text("listing.txt").ends_with("end short\n"));
+        let lost = usize::from(superframes > 1);
+        let clean = 64 * (superframes - lost);
+        let mut totals = format!("superframes {superframes}\nlost {lost}\n");
+        for p in 1..=16 {
+            totals += &format!("programme {p} clean {clean} mended 0 bad 0\n");
+        }
+        assert_eq!(handed.text("totals.txt"), totals + "end short\n");
         assert_eq!(handed.text("words.txt").lines().count(), superframes);
         let pairs = 64 * superframes;
         let (sound, marks) = (&handed.files["16.wav"], &handed.files["16.marks.wav"]);
@@ -301,7 +343,7 @@ fn short_reel() {
 #[test]
 fn no_superframes() {
     let handed = hand_on("none", &header([0, 16, 0, 0]));
-    assert_eq!((handed.end, handed.files.len()), (End::Ok, 52));
+    assert_eq!((handed.end, handed.files.len()), (End::Ok, 53));
     assert_eq!(handed.files["01.wav"], wav::header(16, 0));
     assert_eq!(handed.files["16.marks.wav"], wav::header(8, 0));
     for name in ["01.labels.txt", "names.txt", "words.txt"] {

@@ -108,7 +108,7 @@ pub fn block_of(codes: [i32; 4], extra: [u8; 2]) -> Block {
     block::write(&Content { codes, extra }).unwrap()
 }
 
-/// A state in range with something in every place that may carry something.
+/// A state in range with something in every place that may carry something, and no two programmes alike in their totals.
 pub fn busy_state() -> State {
     let mut state = State::fresh();
     for channel in 0..32 {
@@ -122,6 +122,14 @@ pub fn busy_state() -> State {
     }
     for (n, label) in state.service.labels.iter_mut().enumerate() {
         label[..2].copy_from_slice(&[n as u8 + 1, n as u8 + 65]);
+    }
+    state.totals.taken = 300;
+    state.totals.lost = 7;
+    for p in 0..16 {
+        let n = p as u32;
+        state.totals.clean[p] = 64 * 300 - (5 + n) - (100 + 11 * n);
+        state.totals.mended[p] = 100 + 11 * n;
+        state.totals.bad[p] = 5 + n;
     }
     state
 }

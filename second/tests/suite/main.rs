@@ -18,5 +18,6 @@ mod services;
 mod stretches;
 mod superframes;
 mod takes;
+mod totals;
 mod tracks;
 mod words;

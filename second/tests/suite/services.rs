@@ -28,9 +28,9 @@ impl Machine {
         let six = [&four[..], &FREE].concat().try_into().unwrap();
         let (heard, next) = self.0.take_service(&six, &bits::of_text(sync)).unwrap();
         assert_eq!(
-            (next.now, next.after),
-            (self.0.now, self.0.after),
-            "factors as given"
+            (next.now, next.after, &next.totals),
+            (self.0.now, self.0.after, &self.0.totals),
+            "factors and totals as given"
         );
         self.0 = next;
         heard
@@ -203,6 +203,7 @@ fn every_drop_while_gathering() {
                 drop_at(&mut machine, at, how);
                 let mut expected = Machine::opened().0;
                 expected.now = machine.0.now;
+                expected.totals.lost = u32::from(how == "loss");
                 assert_eq!(machine.0, expected, "{how} at {at} after {gathered}");
                 for character in 0..8 {
                     assert_eq!(machine.group(&characters(character)), None);
@@ -274,6 +275,7 @@ fn next_state() {
     expected.service.position = 1;
     expected.now = state.now;
     expected.after = state.after;
+    expected.totals = state.totals;
     assert_eq!(next, expected);
 }
 
@@ -299,6 +301,7 @@ fn next_state_after_a_group() {
     assert_eq!(next, expected);
 }
 
+/// But for the totals.
 #[test]
 fn two_losses_give_the_fresh_state() {
     let state = busy_state();
@@ -306,7 +309,21 @@ fn two_losses_give_the_fresh_state() {
     assert_eq!(once.now, state.after);
     assert_eq!(once.after, [8; 32]);
     assert_eq!(once.service, State::fresh().service);
-    assert_eq!(once.lose(), Ok(State::fresh()));
+    let mut twice = once.lose().unwrap();
+    assert_eq!(twice.totals.lost, state.totals.lost + 2);
+    twice.totals = State::fresh().totals;
+    assert_eq!(twice, State::fresh());
+    assert_eq!(
+        busy_state()
+            .lose()
+            .unwrap()
+            .reset()
+            .unwrap()
+            .lose()
+            .unwrap()
+            .reset(),
+        Ok(twice)
+    );
 }
 
 /// Each number of the state by itself: the last in range is taken, the first outside it refused.

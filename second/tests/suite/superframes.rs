@@ -130,7 +130,7 @@ fn samples_of_mended_and_bad_blocks() {
 }
 
 /// Between the two radii only blocks with three wrong places differ: bad, or mended with mark 4. Nothing else that is handed out
-/// does, nor the next state.
+/// does, nor the next state but for the totals.
 #[test]
 fn radius_changes_only_what_is_three_places_away() {
     let mut state = State::fresh();
@@ -138,7 +138,14 @@ fn radius_changes_only_what_is_three_places_away() {
     for bytes in superframes(&make("6 12 upto=5 scale=9%50 syncs=1%50 service=1%30")) {
         let (ordinary, next) = state.take(2, bytes);
         let (wide, other) = state.take(3, bytes);
-        assert_eq!(next, other);
+        let (mended, bad) = (next.totals.mended, next.totals.bad);
+        let mut same = other.clone();
+        (same.totals.mended, same.totals.bad) = (mended, bad);
+        assert_eq!(next, same);
+        for p in 0..16 {
+            let more = other.totals.mended[p] - mended[p];
+            assert_eq!(other.totals.bad[p] + more, bad[p]);
+        }
         let (ordinary, wide) = (ordinary.unwrap(), wide.unwrap());
         let marks = |taken: &Taken| taken.marks.as_flattened().to_vec();
         let samples = |taken: &Taken| taken.samples.as_flattened().to_vec();

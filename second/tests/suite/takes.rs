@@ -1,6 +1,7 @@
 //! Lines that take a superframe: how it is made, what is answered, and which lines there are.
 
 use crate::hand::busy_state;
+use crate::totals::{over, Read};
 use second::answer::{answer, state_text};
 use second::bits;
 use second::calls;
@@ -195,13 +196,16 @@ fn line(first: &str, recipe: &Recipe, state: &State) -> String {
     format!("take {first} {seed} {bytes} {}", state_text(state))
 }
 
-/// From document 01, "Numbers given": 1, 2, 3 in this order, and the state that each leaves. No radius is 2 (document 02, P9).
+/// From document 01, "Numbers given": 1, 2, 3 in this order, and the state that each leaves. No radius is 2, and a full history 9, before 3
+/// (document 02, P9 and P7).
 #[test]
 fn refusals() {
     let good = busy_state();
     let mut wrong = good.clone();
     wrong.after[31] = 9;
     let lost = good.lose().unwrap();
+    let mut full = good.clone();
+    full.totals.lost = 1_000_000 - 300;
     let damaged = Recipe {
         place: 5081,
         turned: 0xe0,
@@ -217,7 +221,15 @@ fn refusals() {
         "5120 2048 4096",
         "10240 4096 4096",
     ] {
-        for (radius, state) in [(2, &good), (2, &wrong), (3, &good), (4, &good), (0, &wrong)] {
+        for (radius, state) in [
+            (2, &good),
+            (2, &wrong),
+            (2, &full),
+            (3, &good),
+            (4, &good),
+            (4, &full),
+            (0, &wrong),
+        ] {
             for recipe in [&plain(5), &damaged] {
                 let expected = format!("1 {} {}", state_text(state), nothing());
                 let first = format!("{radius} {lengths}");
@@ -232,6 +244,7 @@ fn refusals() {
         (0, &good),
         (1, &good),
         (4, &wrong),
+        (4, &full),
     ]
     .into_iter()
     .chain([4, 5, 127, 128, 254, 255].map(|radius| (radius, &good)))
@@ -248,6 +261,10 @@ fn refusals() {
         assert_eq!(answer(&line(&first, &damaged, &good)), Some(expected));
         let taken = answer(&line(&first, &plain(5), &good)).unwrap();
         assert!(taken.starts_with("0 "));
+        for recipe in [&plain(5), &damaged] {
+            let expected = format!("9 {} {}", state_text(&full), nothing());
+            assert_eq!(answer(&line(&first, recipe, &full)), Some(expected));
+        }
     }
 }
 
@@ -320,8 +337,8 @@ fn assert_answer(radius: u8) -> Vec<u64> {
     marks
 }
 
-/// The word of an answer that has the sum of wrong sync bits, behind the number and the six of the state.
-const SYNC: usize = 7;
+/// The word of an answer that has the sum of wrong sync bits, behind the number and the eleven of the state.
+const SYNC: usize = 12;
 
 fn byte(word: &str, n: usize) -> usize {
     usize::from_str_radix(&word[2 * n..2 * n + 2], 16).unwrap()
@@ -334,12 +351,14 @@ fn turned_in(words: &[&str]) -> (usize, usize) {
     (place, byte(recipe, 12))
 }
 
-/// The number of each fault that a line may have: a wrong length, no radius, a number of the state out of range, a wrong sync.
-const NUMBERS: [usize; 4] = [1, 2, 2, 3];
+/// The number of each fault that a line may have: a wrong length, no radius, a number of the state out of range, a full history, a wrong
+/// sync.
+const NUMBERS: [usize; 5] = [1, 2, 2, 9, 3];
 
 /// Which of them a line has, by its words.
-fn faults(words: &[&str]) -> [bool; 4] {
-    let over = |word: &str| (0..word.len() / 2).any(|n| byte(word, n) > 8);
+fn faults(words: &[&str]) -> [bool; 5] {
+    let state = &words[7..18];
+    let totals = Read::of(state);
     let (place, turned) = turned_in(words);
     let sync = match place % 40 {
         0 => 0xff,
@@ -349,13 +368,14 @@ fn faults(words: &[&str]) -> [bool; 4] {
     [
         words[2..5] != ["5120", "2048", "2048"],
         !["2", "3"].contains(&words[1]),
-        words[7..11].iter().any(|word| over(word)),
+        over(state) || totals.wrong(),
+        totals.full(),
         place < 5120 && (turned & sync).count_ones() > 2,
     ]
 }
 
 /// The answer to a readable `take` line, whose number is that of its first fault.
-fn answered(line: &str, faults: [bool; 4]) -> Vec<String> {
+fn answered(line: &str, faults: [bool; 5]) -> Vec<String> {
     let first = faults.iter().position(|fault| *fault);
     let number = first.map_or(0, |n| NUMBERS[n]);
     let answer = answer(line).unwrap();
@@ -401,10 +421,19 @@ fn systematic_lines() {
             far.extend((0..16).map(|p| (&said[SYNC + 4][p..=p] == "5", byte(&said[SYNC + 6], p))));
         }
     }
-    // Two that are too short, one without a radius, four with a word that is none, and one for each other word before the state.
-    assert_eq!(unreadable, 2 + 1 + 4 + 5);
+    // Two that are too short, one without a radius, four with a word that is none, one for each other word before the state; one without
+    // totals, four with a number that is none, and one for each other word of them.
+    assert_eq!(unreadable, 2 + 1 + 4 + 5 + 1 + 4 + 3);
     // Each radius, and each of five numbers that are none, with a length, the state and a sync right and wrong.
-    assert_eq!(seen.len(), 7 * 8);
+    let room: HashSet<_> = seen.iter().filter(|(_, faults)| !faults[3]).collect();
+    assert_eq!(room.len(), 7 * 8);
+    // A full history with all of these, where one number that is no radius does.
+    let full: HashSet<_> = seen
+        .iter()
+        .map(|(_, faults)| faults)
+        .filter(|f| f[3])
+        .collect();
+    assert_eq!(full.len(), 16);
     assert_eq!((frames.len(), syncs.len(), numbers.len()), (128, 11, 8));
     // Three readings; with number 5 and without; nine positions with 0 and 7, and at the last one labels too.
     assert_eq!(brought.len(), 3 + 2 + 18 + 2);
@@ -436,8 +465,11 @@ fn systematic_lines_with_mark_4() {
             let more = of(&wide, 1) - of(&ordinary, 1);
             assert_eq!(of(&wide, 2) + more, of(&ordinary, 2));
         }
-        // All but the counts of mended and bad blocks and the sums of samples and marks.
-        let others = |said: &[String]| [&said[..SYNC + 2], &said[SYNC + 4..SYNC + 11]].concat();
+        // All but the counts and the totals of mended and bad blocks and the sums of samples and marks.
+        let others = |said: &[String]| {
+            let (state, clean) = (&said[..SYNC - 2], &said[SYNC..SYNC + 2]);
+            [state, clean, &said[SYNC + 4..SYNC + 11]].concat()
+        };
         assert_eq!(others(&wide), others(&ordinary));
         let none = line.split(' ').nth(7) == Some(&"08".repeat(32));
         assert_eq!(wide[SYNC + 12] == ordinary[SYNC + 12], none);
@@ -449,7 +481,7 @@ fn systematic_lines_with_mark_4() {
 /// Of the random lines some are refused with each number, and more than half are not.
 #[test]
 fn random_lines() {
-    let mut count = [0; 4];
+    let mut count = [0; 10];
     let mut radii = HashSet::new();
     for line in calls::random(1, 30000).filter(|line| line.starts_with("take")) {
         let words: Vec<&str> = line.split(' ').collect();
@@ -458,7 +490,7 @@ fn random_lines() {
         count[said[0].parse::<usize>().unwrap()] += 1;
         radii.insert((words[1].to_string(), said[0].clone()));
     }
-    assert!(count.iter().all(|times| *times > 10));
+    assert!(count[..4].iter().all(|times| *times > 10) && count[9] > 5);
     assert!(2 * count[0] > count.iter().sum());
     for radius in ["2", "3"] {
         let said = |number: &str| radii.contains(&(radius.to_string(), number.to_string()));

@@ -6,7 +6,7 @@ use Rattle.exercise.proofs.main.Statement.{statement}
 use Rattle.exercise.proofs.main.Tie as tie
 
 abbrev Inv-loop : tie.InvT-loop
-Inv-loop line₀ held₀ turns₀ line held turns = length line ≡ 776
+Inv-loop line₀ held₀ turns₀ line held turns = length line ≡ 1185
 
 abbrev μ-loop : tie.MeasureT-loop
 μ-loop line₀ held₀ turns₀ line held turns = turns

@@ -65,8 +65,26 @@ returns-4 : tie.Need-returns-4
 unfolding otherName letters
 returns-4 c =
     let tested = c .before .before .before .before .before in
-    let second = tested .before in
-    rw (ne-eqb _ _ (second .before .if1 .left), ne-eqb _ _ (second .if2 .left), ne-eqb _ _ (tested .if3 .left)) (c .before .before .put-all4 .ensures)
+    let third = tested .before in
+    rw (ne-eqb _ _ (third .before .before .if1 .left), ne-eqb _ _ (third .before .if2 .left), ne-eqb _ _ (third .if3 .left), eq-eqb _ _ (tested .if4 .taken))
+    (c .before .before .put-all4 .ensures)
+
+slice-aggregate-put-all-5 : tie.Need-slice-aggregate-put-all-5
+slice-aggregate-put-all-5 c = search needs
+
+put-all-requires-5 : tie.Need-put-all-requires-5
+put-all-requires-5 c κs = search needs
+
+same-length-5 : tie.Need-same-length-5
+same-length-5 c = search needs
+
+returns-5 : tie.Need-returns-5
+unfolding otherName letters
+returns-5 c =
+    let tested = c .before .before .before .before .before in
+    let third = tested .before in
+    rw (ne-eqb _ _ (third .before .before .if1 .left), ne-eqb _ _ (third .before .if2 .left), ne-eqb _ _ (third .if3 .left), ne-eqb _ _ (tested .if4 .left))
+    (c .before .before .put-all5 .ensures)
 
 pub put-other-spec : {M : Type 1} → statement M
 put-other-spec =
@@ -87,4 +105,8 @@ put-other-spec =
     slice-aggregate-put-all-4
     put-all-requires-4
     same-length-4
-    returns-4)
+    returns-4
+    slice-aggregate-put-all-5
+    put-all-requires-5
+    same-length-5
+    returns-5)

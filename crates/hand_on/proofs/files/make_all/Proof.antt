@@ -5,10 +5,10 @@ use Rattle.hand_on.proofs.files.make_all.Statement.{statement}
 use Rattle.hand_on.proofs.files.make_all.Tie as tie
 
 abbrev Inv-loop : tie.InvT-loop
-Inv-loop promised fds₀ file₀ fds file = file ≤ 52
+Inv-loop promised fds₀ file₀ fds file = file ≤ 53
 
 abbrev μ-loop : tie.MeasureT-loop
-μ-loop promised fds₀ file₀ fds file = 52 - file
+μ-loop promised fds₀ file₀ fds file = 53 - file
 
 loop-holds : tie.Need-loop-holds Inv-loop μ-loop
 loop-holds c = search needs

@@ -5,10 +5,10 @@ use Rattle.hand_on.proofs.files.settle.Statement.{statement}
 use Rattle.hand_on.proofs.files.settle.Tie as tie
 
 abbrev Inv-loop : tie.InvT-loop
-Inv-loop fds file₀ file = file ≤ 52
+Inv-loop fds file₀ file = file ≤ 53
 
 abbrev μ-loop : tie.MeasureT-loop
-μ-loop fds file₀ file = 52 - file
+μ-loop fds file₀ file = 53 - file
 
 loop-holds : tie.Need-loop-holds Inv-loop μ-loop
 loop-holds c = search needs

@@ -6,7 +6,6 @@ use Rattle.superframe.specs.State.{servicedWith}
 use borrow.Author.Needs.{needs}
 use Rattle.superframe.proofs.state.State.take_service.Statement.{statement}
 use Rattle.superframe.proofs.state.State.take_service.Tie as tie
-use Rattle.bits.specs.Table.{zeros}
 
 in-range-requires : tie.Need-in-range-requires
 in-range-requires c κs = search needs
@@ -27,7 +26,7 @@ joined-requires c κs = search needs
 returns-2 : tie.Need-returns-2
 unfolding servicedWith
 returns-2 c =
-    let parts = c .before .before .before in
+    let parts = c .before .before .before .before in
     let served = parts .before .before in
     let part = served .before in
     let tested = part .before in
