@@ -81,10 +81,7 @@ moved-in-range s k = ⊎-elim (λ z. take-in-range s k (accepted-in-range s k z)
 
 answers-same : (radius n : ℕ) (s s' : State) (sf : List ℕ) → serviceOf s ≡ serviceOf s' → SameAnswer (takeAnswer radius n s sf) (takeAnswer radius n s' sf)
 unfolding takeAnswer besideWith refusedWith
-answers-same radius n s s' sf e =
-    either-way (eqb n 0)
-    (λ t. rw (t, e) (record { number = refl; wrong = refl; blocks = refl; programmes = refl; six = refl; position = refl; service = refl; complete = refl; labels = refl }))
-    (λ t. rw t (record { number = refl; wrong = refl; blocks = refl; programmes = refl; six = refl; position = refl; service = refl; complete = refl; labels = refl }))
+answers-same radius n s s' sf e = either-way (eqb n 0) (λ t. rw (t, e)) (λ t. rw t)
 
 module _ (P R : List ℕ → List ℕ → Type 0) (s s' : State) (alike : Alike P R s s') (k : Call s) (k' : Call s') (bytes : k .bytes ≡ k' .bytes) (lent : LentAlike k k') where
   same-number : k .answer .number ≡ k' .answer .number
@@ -339,4 +336,4 @@ module _ (q : ℕ) (low : 1 ≤ q) (high : q ≤ 16) (s : State) (first first' :
           joined-same (third .answer .next) (third' .answer .next) last
 
       pub third-sound : SoundBut q third third'
-      third-sound = sound-but (second .answer .next) (second' .answer .next) third third' those places (third-alike .number) then-alike
+      third-sound = sound-but (second .answer .next) (second' .answer .next) third third' those places (ap (λ (r : Taken). r .number) third-alike) then-alike

@@ -2,6 +2,7 @@
 --     OffProgramme q l l'       two sets of factors that agree but for the two channels of programme q
 --     Alike P R s s'            two states, their first sets related by P and their second by R; all else is the same, the totals too
 --     LentAlike k k'            two calls at the same radius that were lent the same lists
+--     withFresh r               an answer with a fresh state for its next one
 --     SameAnswer r r'           two answers that differ, if at all, in their next states
 --     AnswerBut q r r'          two answers that differ in the number, the factors and the places of programme q, and in their next states
 --     SoundBut q k k'           two calls that leave the same samples and marks, but for the two channels of programme q
@@ -11,7 +12,7 @@ use mathlib.Core.Logic.{_≢_}
 use mathlib.Core.List.{List}
 use lib.IntN.{pos}
 use lib.ListN.{getD}
-use Rattle.superframe.specs.State.{serviceOf, stateInRange}
+use Rattle.superframe.specs.State.{serviceOf, freshState, stateInRange}
 use Rattle.superframe.specs.declared.state.State.{State}
 use Rattle.superframe.specs.declared.taking.Taken.{Taken}
 use Rattle.history.specs.Calls.{Call}
@@ -31,16 +32,23 @@ pub record LentAlike {s s' : State} (k : Call s) (k' : Call s') : Type 0 where
   pub samples : k .lent-samples ≡ k' .lent-samples
   pub marks : k .lent-marks ≡ k' .lent-marks
 
-pub record SameAnswer (r r' : Taken) : Type 0 where
-  pub number : r .number ≡ r' .number
-  pub wrong : r .wrong ≡ r' .wrong
-  pub blocks : r .blocks ≡ r' .blocks
-  pub programmes : r .programmes ≡ r' .programmes
-  pub six : r .six ≡ r' .six
-  pub position : r .position ≡ r' .position
-  pub service : r .service ≡ r' .service
-  pub complete : r .complete ≡ r' .complete
-  pub labels : r .labels ≡ r' .labels
+abbrev pub withFresh : Taken → Taken
+withFresh r =
+    record {
+      number = r .number;
+      next = freshState;
+      wrong = r .wrong;
+      blocks = r .blocks;
+      programmes = r .programmes;
+      six = r .six;
+      position = r .position;
+      service = r .service;
+      complete = r .complete;
+      labels = r .labels;
+    }
+
+abbrev pub SameAnswer : Taken → Taken → Type 0
+SameAnswer r r' = withFresh r ≡ withFresh r'
 
 pub record AnswerBut (q : ℕ) (r r' : Taken) : Type 0 where
   pub number : r .number ≡ r' .number

@@ -3,12 +3,13 @@
 --     positions-sum         the blocks that pass a test in the eight positions are those that pass it on tape
 --     kinds-sum             of three kinds each place has one
 --     blocks-all            64 blocks are counted in each of the eight positions
+--     carries-tested        the test of what a block carries passes where document 01's sentence says that it carries a programme
 --     carries-there         a block on tape carries programme q exactly where it stands in the position of q
 --     programme-counted     what is counted in the position of programme q are the blocks on tape that carry it
 --     programmes-twice      so the sixteen programmes have each block twice
 -- Assumes nothing.
 use mathlib.Core.Path.{_≡_, refl, sym, ap, _∙_}
-use mathlib.Core.Bool.{Bool, false, cond}
+use mathlib.Core.Bool.{Bool, true, false, cond}
 use mathlib.Core.List.{List}
 use Prim.Native.Nat.{ℕ, zero, suc, _+_, _-_, _*_, _/_, _%_, _<_, _≤_}
 use native.Mathlib.Nat.{add-zero, add-suc}
@@ -21,7 +22,7 @@ use Rattle.bits.proofs.Tests.{either-way}
 use Rattle.block.specs.Read.{bad}
 use Rattle.block.specs.Mark.{kindOf}
 use Rattle.tape.specs.Tape.{sumTo, readings, tapeOf, readingIn, howMany, talliedBy, kindIn, blocksOf}
-use Rattle.tape.specs.Document.{oneOf, carriesOnTape, programmeBlocks}
+use Rattle.tape.specs.Document.{Carries, a-first, a-second, b-first, b-second, oneOf, carriesOnTape, programmeBlocks}
 use Rattle.tape.proofs.Tape.{many-same, kind-small}
 
 pub many-split : (m n : ℕ) (P : ℕ → Bool) → howMany (m + n) P ≡ howMany m P + howMany n (λ i. P (m + i))
@@ -135,6 +136,25 @@ one-counts (suc n) m g =
   where
     past : (n ≡ m → ⊥) → n ≤ m → suc n ≤ m
     past other l = either-way (ltb n m) (λ t. let u = ltb-true n m t in omega (arith, u)) (λ t. let u = ltb-false n m t in absurd (other (omega (arith, l, u))))
+
+-- block b of main frame n of the 128, both from 1
+tested-at : (n b q : ℕ) → 1 ≤ n → 1 ≤ b → b ≤ 4 → (test : Bool) → ltb (n - 1) 64 ≡ test
+    → carriesOnTape (4 * (n - 1) + (b - 1)) q ≡ cond test (oneOf (2 * b - 1) (2 * b) q) (oneOf (2 * b + 7) (2 * b + 8) q)
+unfolding carriesOnTape
+tested-at n b q k l u test e =
+    let frame : (4 * (n - 1) + (b - 1)) / 4 ≡ n - 1 = omega arith in
+    let place : (4 * (n - 1) + (b - 1)) % 4 + 1 ≡ b = omega arith in
+    rw (frame, place, e)
+
+pub carries-tested : (f b q frame place : ℕ) → 1 ≤ f → f ≤ 64 → 1 ≤ b → b ≤ 4 → Carries f b q frame place → carriesOnTape (4 * (frame - 1) + (b - 1)) q ≡ true
+carries-tested f b q frame place k m l u a-first =
+    tested-at f b (2 * b - 1) k l u true (lt-ltb (f - 1) 64 (omega arith)) ∙ rw (eq-eqb (2 * b - 1) (2 * b - 1) refl)
+carries-tested f b q frame place k m l u a-second =
+    tested-at f b (2 * b) k l u true (lt-ltb (f - 1) 64 (omega arith)) ∙ rw (ne-eqb (2 * b) (2 * b - 1) (λ e. omega (arith, e, l)), eq-eqb (2 * b) (2 * b) refl)
+carries-tested f b q frame place k m l u b-first =
+    tested-at (64 + f) b (2 * b + 7) (omega arith) l u false (le-ltb (64 + f - 1) 64 (omega arith)) ∙ rw (eq-eqb (2 * b + 7) (2 * b + 7) refl)
+carries-tested f b q frame place k m l u b-second =
+    tested-at (64 + f) b (2 * b + 8) (omega arith) l u false (le-ltb (64 + f - 1) 64 (omega arith)) ∙ rw (ne-eqb (2 * b + 8) (2 * b + 7) (λ e. omega (arith, e)), eq-eqb (2 * b + 8) (2 * b + 8) refl)
 
 -- programmes 2 p + 1 and 2 p + 2 are those of position p
 two-of : (p m n q : ℕ) → m ≡ 2 * p + 1 → n ≡ 2 * p + 2 → 1 ≤ q → oneOf m n q ≡ eqb p ((q - 1) / 2)
