@@ -6,16 +6,15 @@
 -- Assumes nothing.
 use mathlib.Core.Path.{_≡_, refl, sym, ap, _∙_}
 use mathlib.Core.Bool.{true, false, true≢false, cond}
-use mathlib.Core.List.{List, [], _∷_}
+use mathlib.Core.List.{List}
 use Prim.Native.Nat.{ℕ, _+_, _-_, _*_, _≤_}
 use native.Mathlib.Omega.{arith}
-use borrow.Author.Tests.{eqb-true, ne-eqb}
 use lib.Dec.{eqb}
 use lib.ListN.{getD-replicate}
-use Rattle.bits.specs.Table.{zeros}
+use Rattle.bits.specs.Table.{zeros, total}
 use Rattle.bits.proofs.Tests.{either-way}
 use Rattle.tape.specs.Tape.{kindIn, talliedBy, blocksOf}
-use Rattle.tape.specs.Document.{entry}
+use Rattle.tape.specs.Document.{entry, programmeBlocks}
 use Rattle.tape.proofs.Positions.{programme-counted}
 use Rattle.running.specs.Running.{hasRoom, noRunning, addedTo, withTaken, withLost}
 use Rattle.running.specs.Document.{Full}
@@ -29,7 +28,7 @@ use Rattle.superframe.specs.declared.state.Serviced.{Serviced}
 use Rattle.superframe.specs.declared.taking.Taken.{Taken}
 use Rattle.superframe.proofs.Parts.{running-in-range}
 use Rattle.superframe.proofs.Counts.{service-counts}
-use Rattle.history.specs.Totals.{Asked, take, lose, serve, reset, Made, taking, losing, serving, resetting, Run, begun, then, isReset, since, total, takenBy, lostBy, givenBy, blocksBy, Counted}
+use Rattle.history.specs.Totals.{Asked, take, lose, serve, reset, Made, taking, losing, serving, resetting, Run, begun, then, isReset, since, addedBy, lostBy, givenBy, blocksBy, Counted}
 use Rattle.history.proofs.Loss.{fresh-in-range}
 use Rattle.history.proofs.Ranges.{lose-in-range, service-keeps-range, reset-in-range, take-in-range}
 use Rattle.history.proofs.Answers.{answer-is}
@@ -79,11 +78,6 @@ made-totals s s' e (serving six sync r m) = ap (λ (r : Serviced). r .next .tota
 made-totals s s' e (resetting r m) = rw m (reset-totals s)
 
 -- ---- counted over the calls
--- a number of the totals, and what a call adds to it
-record Adds (f : Running → ℕ) (g : Asked → ℕ) : Type 0 where
-  none : f noRunning ≡ 0
-  more : (t : Running) (e : Asked) → isReset e ≡ false → f (after t e) ≡ g e + f t
-
 starts : (t : Running) (e : Asked) → isReset e ≡ true → after t e ≡ noRunning
 unfolding isReset after
 starts t (take radius sf n) h = absurd (true≢false (sym h))
@@ -91,83 +85,58 @@ starts t (lose n) h = absurd (true≢false (sym h))
 starts t (serve n) h = absurd (true≢false (sym h))
 starts t (reset n) h = rw h
 
-counted : (f : Running → ℕ) (g : Asked → ℕ) → Adds f g → (s : State) (es : List Asked) → Run s es → f (s .totals) ≡ total g (since es)
-unfolding since total
-counted f g a s es begun = a .none
-counted f g a s es (then s₀ s' es' e r m) =
-    ap f (made-totals s₀ s e m)
-    ∙ either-way (isReset e)
-    (λ t. rw t (ap f (starts (s₀ .totals) e t) ∙ a .none))
-    (λ t. rw t (a .more (s₀ .totals) e t ∙ ap (λ (n : ℕ). g e + n) (counted f g a s₀ es' r)))
+-- a number of the totals to which a superframe that is taken adds x, and a lost one y
+module _ (f : Running → ℕ) (x : ℕ → List ℕ → ℕ) (y : ℕ) (none : f noRunning ≡ 0)
+    (taken : (t : Running) (radius : ℕ) (sf : List ℕ) → f (withTaken t (blocksOf radius sf)) ≡ x radius sf + f t) (lost : (t : Running) → f (withLost t) ≡ y + f t) where
+  more : (t : Running) (e : Asked) → isReset e ≡ false → f (after t e) ≡ addedBy x y e + f t
+  unfolding isReset after addedBy
+  more t (take radius sf n) h =
+      either-way (eqb n 0) (λ u. rw u (taken t radius sf)) (λ u. either-way (eqb n 3) (λ v. rw (u, v) (lost t)) (λ v. rw (u, v) (omega arith)))
+  more t (lose n) h = either-way (eqb n 0) (λ u. rw u (lost t)) (λ u. rw u (omega arith))
+  more t (serve n) h = omega arith
+  more t (reset n) h = rw h (omega arith)
 
--- superframes
-more-taken : (t : Running) (e : Asked) → isReset e ≡ false → after t e .taken ≡ takenBy e + t .taken
-unfolding isReset after takenBy withTaken withLost
-more-taken t (take radius sf n) h =
-    either-way (eqb n 0) (λ u. rw u (omega arith)) (λ u. either-way (eqb n 3) (λ v. rw (u, v) (omega arith)) (λ v. rw (u, v) (omega arith)))
-more-taken t (lose n) h = either-way (eqb n 0) (λ u. rw u (omega arith)) (λ u. rw u (omega arith))
-more-taken t (serve n) h = omega arith
-more-taken t (reset n) h = rw h (omega arith)
+  counted : (s : State) (es : List Asked) → Run s es → f (s .totals) ≡ total (addedBy x y) (since es)
+  unfolding since total
+  counted s es begun = none
+  counted s es (then s₀ s' es' e r m) =
+      ap f (made-totals s₀ s e m)
+      ∙ either-way (isReset e)
+      (λ t. rw t (ap f (starts (s₀ .totals) e t) ∙ none))
+      (λ t. rw t (more (s₀ .totals) e t ∙ ap (λ (n : ℕ). addedBy x y e + n) (counted s₀ es' r)))
 
-more-lost : (t : Running) (e : Asked) → isReset e ≡ false → after t e .lost ≡ lostBy e + t .lost
-unfolding isReset after lostBy withTaken withLost
-more-lost t (take radius sf n) h =
-    either-way (eqb n 0)
-    (λ u. rw (u, ne-eqb n 3 (λ e. let z = eqb-true n 0 u in omega (arith, e, z))) (omega arith))
-    (λ u. either-way (eqb n 3) (λ v. rw (u, v) (omega arith)) (λ v. rw (u, v) (omega arith)))
-more-lost t (lose n) h = either-way (eqb n 0) (λ u. rw u (omega arith)) (λ u. rw u (omega arith))
-more-lost t (serve n) h = omega arith
-more-lost t (reset n) h = rw h (omega arith)
+-- the blocks of programme q of one kind, which stand in one of the three lists of the totals
+module _ (q : ℕ) (low : 1 ≤ q) (high : q ≤ 16) (k : ℕ) where
+  no-blocks : entry (zeros 16) q 0 ≡ 0
+  no-blocks = getD-replicate {A = ℕ} 16 (q - 1) 0 0 (omega arith)
 
--- the blocks of programme q of one kind, which stand in one of the three lists of the totals and of what is counted in a superframe
-module _ (q : ℕ) (low : 1 ≤ q) (high : q ≤ 16) (k : ℕ) (list : Running → List ℕ)
-    (begins : list noRunning ≡ zeros 16)
-    (taken : (t : Running) (radius : ℕ) (sf : List ℕ) → list (withTaken t (blocksOf radius sf)) ≡ addedTo (list t) (talliedBy (kindIn radius sf) k))
-    (lost : (t : Running) → list (withLost t) ≡ list t) where
-  more-blocks : (t : Running) (e : Asked) → isReset e ≡ false → entry (list (after t e)) q 0 ≡ blocksBy q k e + entry (list t) q 0
-  unfolding isReset after blocksBy
-  more-blocks t (take radius sf n) h =
-      either-way (eqb n 0)
-      (λ u.
-      rw (u, taken t radius sf, added-at (list t) (talliedBy (kindIn radius sf) k) q low high, programme-counted radius sf k q low high) (omega arith))
-      (λ u. either-way (eqb n 3) (λ v. rw (u, v, lost t) (omega arith)) (λ v. rw (u, v) (omega arith)))
-  more-blocks t (lose n) h = either-way (eqb n 0) (λ u. rw (u, lost t) (omega arith)) (λ u. rw u (omega arith))
-  more-blocks t (serve n) h = omega arith
-  more-blocks t (reset n) h = rw h (omega arith)
+  more-blocks : (old : List ℕ) (radius : ℕ) (sf : List ℕ) → entry (addedTo old (talliedBy (kindIn radius sf) k)) q 0 ≡ programmeBlocks radius k q sf + entry old q 0
+  more-blocks old radius sf = omega (arith, added-at old (talliedBy (kindIn radius sf) k) q low high, programme-counted radius sf k q low high)
 
-  adds-blocks : Adds (λ t. entry (list t) q 0) (blocksBy q k)
-  adds-blocks = record { none = rw begins (getD-replicate {A = ℕ} 16 (q - 1) 0 0 (omega arith)); more = more-blocks }
+  blocks-counted : (list : Running → List ℕ) → list noRunning ≡ zeros 16
+      → ((t : Running) (radius : ℕ) (sf : List ℕ) → list (withTaken t (blocksOf radius sf)) ≡ addedTo (list t) (talliedBy (kindIn radius sf) k))
+      → ((t : Running) → list (withLost t) ≡ list t)
+      → (s : State) (es : List Asked) → Run s es → entry (list (s .totals)) q 0 ≡ total (blocksBy q k) (since es)
+  blocks-counted list begins taken lost =
+      counted (λ t. entry (list t) q 0) (λ radius sf. programmeBlocks radius k q sf) 0
+      (rw begins no-blocks) (λ t radius sf. rw (taken t radius sf) (more-blocks (list t) radius sf)) (λ t. rw (lost t) (omega arith))
 
 pub run-counted : (s : State) (es : List Asked) → Run s es → Counted s es
 unfolding noRunning withTaken withLost blocksOf
 run-counted s es r =
     record {
-      taken = counted (λ t. t .taken) takenBy (record { none = refl; more = more-taken }) s es r;
-      lost = counted (λ t. t .lost) lostBy (record { none = refl; more = more-lost }) s es r;
-      clean = λ q l h. counted (λ t. entry (t .clean) q 0) (blocksBy q 0) (adds-blocks q l h 0 (λ t. t .clean) refl (λ t radius sf. refl) (λ t. refl)) s es r;
-      mended = λ q l h. counted (λ t. entry (t .mended) q 0) (blocksBy q 1) (adds-blocks q l h 1 (λ t. t .mended) refl (λ t radius sf. refl) (λ t. refl)) s es r;
-      bad = λ q l h. counted (λ t. entry (t .bad) q 0) (blocksBy q 2) (adds-blocks q l h 2 (λ t. t .bad) refl (λ t radius sf. refl) (λ t. refl)) s es r;
+      taken = counted (λ t. t .taken) (λ radius sf. 1) 0 refl (λ t radius sf. omega arith) (λ t. omega arith) s es r;
+      lost = counted (λ t. t .lost) (λ radius sf. 0) 1 refl (λ t radius sf. omega arith) (λ t. omega arith) s es r;
+      clean = λ q l h. blocks-counted q l h 0 (λ t. t .clean) refl (λ t radius sf. refl) (λ t. refl) s es r;
+      mended = λ q l h. blocks-counted q l h 1 (λ t. t .mended) refl (λ t radius sf. refl) (λ t. refl) s es r;
+      bad = λ q l h. blocks-counted q l h 2 (λ t. t .bad) refl (λ t radius sf. refl) (λ t. refl) s es r;
     }
 
 -- ---- what was given
-one-or-other : (e : Asked) → givenBy e ≡ takenBy e + lostBy e
-unfolding givenBy takenBy lostBy
-one-or-other (take radius sf n) =
-    either-way (eqb n 0)
-    (λ u. rw (u, ne-eqb n 3 (λ e. let z = eqb-true n 0 u in omega (arith, e, z))) (omega arith))
-    (λ u. rw u (omega arith))
-one-or-other (lose n) = omega arith
-one-or-other (serve n) = omega arith
-one-or-other (reset n) = omega arith
-
-given-are : (es : List Asked) → total givenBy es ≡ total takenBy es + total lostBy es
-unfolding total
-given-are [] = refl
-given-are (e ∷ es) = omega (arith, one-or-other e, given-are es)
-
 module _ (s : State) (es : List Asked) (r : Run s es) where
-  given-is : total givenBy (since es) ≡ s .totals .taken + s .totals .lost
-  given-is = let c = run-counted s es r in omega (arith, given-are (since es), c .taken, c .lost)
+  given-is : s .totals .taken + s .totals .lost ≡ total givenBy (since es)
+  unfolding noRunning withTaken withLost
+  given-is = counted (λ t. t .taken + t .lost) (λ radius sf. 1) 1 refl (λ t radius sf. omega arith) (λ t. omega arith) s es r
 
   pub run-sums : (q : ℕ) → 1 ≤ q → q ≤ 16
       → total (blocksBy q 0) (since es) + total (blocksBy q 1) (since es) + total (blocksBy q 2) (since es) ≡ 64 * (total givenBy (since es) - total lostBy (since es))

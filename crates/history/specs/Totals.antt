@@ -5,15 +5,17 @@
 --                       state s behind them. Refused calls are among them
 --     isReset e         a reset that was not refused
 --     since es          the calls since the last reset: "a call that resets starts a new history at that point"
---     total f es        a number added up over some calls
---     takenBy, lostBy, givenBy      of a call 1 where a superframe was taken; lost, with its bytes or without; given, which is one or the other
+--     addedBy x y e     what call e adds where a superframe that is taken adds x, by its radius and its bytes, and a lost one y, lost with its bytes or without: "a
+--                       call with refusal 1, 2 or 9 adds nothing"
+--     takenBy, lostBy, givenBy      of a call 1 where a superframe was taken; lost; given, which is one or the other
 --     blocksBy q k      of a superframe that was taken, the blocks that carry programme q and are of kind k at its radius: 0 clean, 1 mended, 2 bad
 --     Counted s es      "each number equals the count over the superframes given so far"
-use Prim.Native.Nat.{ℕ, _+_, _≤_}
+use Prim.Native.Nat.{ℕ, _≤_}
 use mathlib.Core.Path.{_≡_}
 use mathlib.Core.Bool.{Bool, false, cond}
 use mathlib.Core.List.{List, [], _∷_}
 use lib.Dec.{eqb}
+use Rattle.bits.specs.Table.{total}
 use Rattle.tape.specs.Document.{entry, programmeBlocks}
 use Rattle.superframe.specs.State.{freshState, lostWith, servicedWith, resetWith}
 use Rattle.superframe.specs.declared.state.State.{State}
@@ -48,33 +50,23 @@ unfoldable pub since : List Asked → List Asked
 since [] = []
 since (e ∷ es) = cond (isReset e) [] (e ∷ since es)
 
-unfoldable pub total : (Asked → ℕ) → List Asked → ℕ
-total f [] = 0
-total f (e ∷ es) = f e + total f es
+unfoldable pub addedBy : (ℕ → List ℕ → ℕ) → ℕ → Asked → ℕ
+addedBy x y (take radius sf n) = cond (eqb n 0) (x radius sf) (cond (eqb n 3) y 0)
+addedBy x y (lose n) = cond (eqb n 0) y 0
+addedBy x y (serve n) = 0
+addedBy x y (reset n) = 0
 
-unfoldable pub takenBy : Asked → ℕ
-takenBy (take radius sf n) = cond (eqb n 0) 1 0
-takenBy (lose n) = 0
-takenBy (serve n) = 0
-takenBy (reset n) = 0
+abbrev pub takenBy : Asked → ℕ
+takenBy = addedBy (λ radius sf. 1) 0
 
-unfoldable pub lostBy : Asked → ℕ
-lostBy (take radius sf n) = cond (eqb n 3) 1 0
-lostBy (lose n) = cond (eqb n 0) 1 0
-lostBy (serve n) = 0
-lostBy (reset n) = 0
+abbrev pub lostBy : Asked → ℕ
+lostBy = addedBy (λ radius sf. 0) 1
 
-unfoldable pub givenBy : Asked → ℕ
-givenBy (take radius sf n) = cond (eqb n 0) 1 (cond (eqb n 3) 1 0)
-givenBy (lose n) = cond (eqb n 0) 1 0
-givenBy (serve n) = 0
-givenBy (reset n) = 0
+abbrev pub givenBy : Asked → ℕ
+givenBy = addedBy (λ radius sf. 1) 1
 
-unfoldable pub blocksBy : ℕ → ℕ → Asked → ℕ
-blocksBy q k (take radius sf n) = cond (eqb n 0) (programmeBlocks radius k q sf) 0
-blocksBy q k (lose n) = 0
-blocksBy q k (serve n) = 0
-blocksBy q k (reset n) = 0
+abbrev pub blocksBy : ℕ → ℕ → Asked → ℕ
+blocksBy q k = addedBy (λ radius sf. programmeBlocks radius k q sf) 0
 
 pub record Counted (s : State) (es : List Asked) : Type 0 where
   pub taken : s .totals .taken ≡ total takenBy (since es)

@@ -1,10 +1,10 @@
 -- What a superframe adds to the totals, in document 02's words.
---     added-at          to the blocks of programme q those of its position
+--     added-there, added-at     to the blocks of programme q, from 0 and from 1, those of its position
 --     taken-adds, lost-adds     a superframe that is taken, and one that is lost
 -- Assumes nothing.
 use mathlib.Core.Path.{_≡_, refl, ap, _∙_}
 use mathlib.Core.List.{List}
-use Prim.Native.Nat.{ℕ, _+_, _-_, _*_, _/_, _≤_}
+use Prim.Native.Nat.{ℕ, _+_, _-_, _*_, _/_, _<_, _≤_}
 use native.Mathlib.Omega.{arith}
 use lib.ListN.{getD}
 use Rattle.bits.proofs.Table.{getD-tab}
@@ -14,9 +14,12 @@ use Rattle.running.specs.Running.{addedTo, withTaken, withLost}
 use Rattle.running.specs.Document.{AddedFor, TakenAdds, LostAdds}
 use Rattle.running.specs.declared.Running.{Running}
 
-pub added-at : (old counts : List ℕ) (q : ℕ) → 1 ≤ q → q ≤ 16 → entry (addedTo old counts) q 0 ≡ entry old q 0 + getD counts ((q - 1) / 2) 0
+pub added-there : (old counts : List ℕ) (q : ℕ) → q < 16 → getD (addedTo old counts) q 0 ≡ getD old q 0 + getD counts (q / 2) 0
 unfolding addedTo
-added-at old counts q low high = getD-tab 16 (λ (q : ℕ). getD old q 0 + getD counts (q / 2) 0) (q - 1) 0 (omega arith)
+added-there old counts q l = getD-tab 16 (λ (q : ℕ). getD old q 0 + getD counts (q / 2) 0) q 0 l
+
+pub added-at : (old counts : List ℕ) (q : ℕ) → 1 ≤ q → q ≤ 16 → entry (addedTo old counts) q 0 ≡ entry old q 0 + getD counts ((q - 1) / 2) 0
+added-at old counts q low high = added-there old counts (q - 1) (omega arith)
 
 -- programme q, from 1, is one of position b, from 1
 of-position : (old counts : List ℕ) (q b : ℕ) → 1 ≤ q → q ≤ 16 → (q - 1) / 2 ≡ b - 1 → entry (addedTo old counts) q 0 ≡ entry old q 0 + entry counts b 0

@@ -11,14 +11,14 @@ use borrow.Author.Tests.{eq-eqb, le-leb}
 use lib.Dec.{leb}
 use lib.ListN.{getD}
 use Rattle.bits.specs.Table.{tabulate, every}
-use Rattle.bits.proofs.Table.{getD-tab}
 use Rattle.bits.proofs.Tests.{both}
 use Rattle.bits.proofs.Every.{every-tab}
 use Rattle.tape.specs.declared.blocks.Blocks.{Blocks}
-use Rattle.running.specs.Running.{addsUp, programmeFits, sumsFit, givenIn, mostGiven, runningInRange, hasRoom, noRunning, addedTo, withTaken, withLost}
+use Rattle.running.specs.Running.{addsUp, programmeFits, sumsFit, givenIn, mostGiven, runningInRange, hasRoom, noRunning, withTaken, withLost}
 use Rattle.running.specs.declared.Running.{Running}
 use Rattle.running.proofs.Sums.{sum-is, few}
 use Rattle.running.proofs.More.{room}
+use Rattle.running.proofs.Adds.{added-there}
 
 pub record InEach (b : Blocks) : Type 0 where
   pub all : (p : ℕ) → p < 8 → getD (b .clean) p 0 + getD (b .mended) p 0 + getD (b .bad) p 0 ≡ 64
@@ -40,14 +40,10 @@ module _ (t : Running) (h : runningInRange t ≡ true) (r : hasRoom t ≡ true) 
   lost-in-range = in-range (withLost t) (sum-is t h) (let few = room t r in omega (arith, few))
 
   pub taken-in-range : (b : Blocks) → InEach b → runningInRange (withTaken t b) ≡ true
-  unfolding withTaken addedTo
+  unfolding withTaken
   taken-in-range b e =
       in-range (withTaken t b)
       (λ q l.
-      rw (
-        getD-tab 16 (λ (q : ℕ). getD (t .clean) q 0 + getD (b .clean) (q / 2) 0) q 0 l,
-        getD-tab 16 (λ (q : ℕ). getD (t .mended) q 0 + getD (b .mended) (q / 2) 0) q 0 l,
-        getD-tab 16 (λ (q : ℕ). getD (t .bad) q 0 + getD (b .bad) (q / 2) 0) q 0 l,
-      )
+      rw (added-there (t .clean) (b .clean) q l, added-there (t .mended) (b .mended) q l, added-there (t .bad) (b .bad) q l)
       (omega (arith, sum-is t h q l, e .all (q / 2) (omega arith))))
       (let few = room t r in omega (arith, few))

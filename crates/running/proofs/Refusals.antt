@@ -3,27 +3,24 @@
 --     StepRefuses t s               what is answered to one superframe more: the numbers in their order, and the totals as given under a refusal
 --     step-refuses                  THE REFUSALS of a superframe taken and of one lost
 --     take-counts, lose-counts      what each adds where nothing is refused
---     reset-refuses                 a reset refuses totals that break their sums, and nothing else; a full history can be reset
 -- Assumes nothing.
 use mathlib.Core.Path.{_≡_, refl, subst}
 use mathlib.Core.Bool.{true, false}
 use mathlib.Core.Logic.{_≢_}
-use Prim.Native.Nat.{ℕ, _+_, _-_, _<_}
+use Prim.Native.Nat.{_+_, _-_, _<_}
 use native.Mathlib.Omega.{arith}
 use borrow.Author.Tests.{eqb-true, eqb-false, leb-false, ltb-true, ltb-false}
 use lib.Dec.{eqb}
-use Rattle.bits.specs.Table.{tabulate}
 use Rattle.bits.specs.Order.{Refused, Accepted}
-use Rattle.bits.proofs.Table.{length-tab, getD-tab}
 use Rattle.bits.proofs.Tests.{either-way}
 use Rattle.bits.proofs.Every.{every-missed}
 use Rattle.bits.proofs.Order.{Tells, tested}
-use Rattle.running.specs.Running.{addsUp, programmeFits, sumsFit, runningInRange, hasRoom, noRunning, withTaken, withLost, stepNumber, steppedTo, takenStep, lostStep, resetStep}
+use Rattle.running.specs.Running.{addsUp, programmeFits, sumsFit, runningInRange, hasRoom, withTaken, withLost, stepNumber, steppedTo, takenStep, lostStep}
 use Rattle.running.specs.Document.{Broken, sum, over, Full, TakenAdds, LostAdds}
 use Rattle.tape.specs.declared.blocks.Blocks.{Blocks}
 use Rattle.running.specs.declared.Running.{Running}
 use Rattle.running.specs.declared.Step.{Step}
-use Rattle.running.proofs.Sums.{sum-is, few}
+use Rattle.running.proofs.Sums.{programmes, sixteen, itself, sum-is, few}
 use Rattle.running.proofs.More.{goes-on, stays}
 use Rattle.running.proofs.Adds.{taken-adds, lost-adds}
 
@@ -31,9 +28,9 @@ module _ (t : Running) where
   broken-sum : sumsFit t ≡ false → Broken t
   unfolding sumsFit addsUp
   broken-sum e =
-      let m = every-missed (programmeFits t) (tabulate 16 (λ q. q)) 0 e in
-      let within : m .place < 16 = omega (arith, m .there, length-tab 16 (λ (q : ℕ). q)) in
-      let fails = rw (getD-tab 16 (λ (q : ℕ). q) (m .place) 0 within) at (m .fails) in
+      let m = every-missed (programmeFits t) programmes 0 e in
+      let within : m .place < 16 = omega (arith, m .there, sixteen) in
+      let fails = rw (itself (m .place) within) at (m .fails) in
       let from-one : m .place + 1 - 1 ≡ m .place = omega arith in
       sum (m .place + 1) (omega arith) (omega arith) (rw from-one (eqb-false _ _ fails))
 
@@ -90,15 +87,3 @@ module _ (t : Running) where
   pub lose-counts : lostStep t .number ≡ 0 → LostAdds t (lostStep t .next)
   unfolding lostStep
   lose-counts e = rw (follows (withLost t) e) (lost-adds t)
-
-  pub record ResetRefuses (s : Step) : Type 0 where
-    pub order : Refused (Broken t) 2 Accepted (s .number)
-    pub given : s .number ≢ 0 → s .next ≡ t
-    pub anew : s .number ≡ 0 → s .next ≡ noRunning
-
-  pub reset-refuses : ResetRefuses (resetStep t)
-  unfolding resetStep
-  reset-refuses =
-      either-way (runningInRange t)
-      (λ u. rw u (record { order = record { there = λ f. absurd (whole u f); away = λ _. refl }; given = λ h. absurd (h refl); anew = λ _. refl }))
-      (λ u. rw u (record { order = record { there = λ _. refl; away = λ f. absurd (f (broken u)) }; given = λ _. refl; anew = λ e. absurd (omega (arith, e)) }))

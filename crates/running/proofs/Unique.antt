@@ -3,7 +3,7 @@ use mathlib.Core.Path.{_≡_}
 use mathlib.Core.Bool.{Bool}
 use Rattle.bits.proofs.Unique.{same}
 use Rattle.tape.specs.declared.blocks.Blocks.{Blocks}
-use Rattle.running.specs.Running.{runningInRange, hasRoom, noRunning, takenStep, lostStep, resetStep}
+use Rattle.running.specs.Running.{runningInRange, hasRoom, noRunning, takenStep, lostStep}
 use Rattle.running.specs.declared.Running.{Running}
 use Rattle.running.specs.declared.Step.{Step}
 
@@ -22,6 +22,3 @@ module _ (t : Running) where
 
   pub lose-unique : (r r' : Step) → r ≡ lostStep t → r' ≡ lostStep t → r ≡ r'
   lose-unique r r' = same
-
-  pub reset-unique : (r r' : Step) → r ≡ resetStep t → r' ≡ resetStep t → r ≡ r'
-  reset-unique r r' = same

@@ -13,7 +13,6 @@
 --     stepNumber t          what one superframe more is refused with: 2 for totals out of range, then 9 for a full history, else 0
 --     steppedTo t next      what is answered: 0 and the next totals, or that number and the totals as given
 --     takenStep t b, lostStep t     so for a superframe taken, and for a lost one
---     resetStep t           a new history, unless the totals are out of range
 use Prim.Native.Nat.{ℕ, _+_, _*_, _/_, _<_, _≤_}
 use mathlib.Core.Bool.{Bool, false, cond}
 use mathlib.Core.List.{List}
@@ -78,6 +77,3 @@ takenStep t b = steppedTo t (withTaken t b)
 
 unfoldable pub lostStep : Running → Step
 lostStep t = steppedTo t (withLost t)
-
-unfoldable pub resetStep : Running → Step
-resetStep t = cond (runningInRange t) (record { number = 0; next = noRunning }) (record { number = 2; next = t })

@@ -1,7 +1,7 @@
 // The running totals of a history (document 02, P7; docs/FORMAT.md, "Running totals"): how many superframes were given since it began, taken or lost, and how
 // the blocks of each programme were read in those that were taken. A block belongs to two programmes, and counts for both.
 ghost use mathlib.Core.Path.{_≡_};
-ghost use Rattle.running.specs.Running.{addsUp, sumsFit, givenIn, runningInRange, hasRoom, noRunning, Bounded, addedTo, stepNumber, takenStep, lostStep, resetStep};
+ghost use Rattle.running.specs.Running.{addsUp, sumsFit, givenIn, runningInRange, hasRoom, noRunning, Bounded, addedTo, stepNumber, takenStep, lostStep};
 use tape::Blocks;
 
 pub struct Running {
@@ -150,21 +150,5 @@ impl Running {
             bad,
         };
         Step { number: 0, next }
-    }
-
-    // A new history begins; a full one may end so.
-    pub fn reset(self) -> Step
-        ensures { λ r. ⌜ r ≡ resetStep self ⌝ }
-    {
-        if self.in_range() {
-            return Step {
-                number: 0,
-                next: Running::none(),
-            };
-        }
-        Step {
-            number: 2,
-            next: self,
-        }
     }
 }

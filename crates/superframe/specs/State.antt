@@ -13,7 +13,8 @@
 --     lostFactors, lostState      after a lost superframe: the factors move on by one, "missing" behind; the service searches; it is counted as lost
 --     lostWith s            the answer to a loss: the state as given with number 2 where it is out of range, and with 9 where its history is full
 --     servicedWith s six sync     the answer to six service bytes and a sync; the factors and the totals are as given
---     resetWith s           the answer to a reset: a new history, and all else as given; number 2 and the state as given where it is out of range
+--     resetState s          after a reset: a new history, and all else as given
+--     resetWith s           the answer to it; number 2 and the state as given where it is out of range
 use Prim.Native.Nat.{ℕ}
 use mathlib.Core.Bool.{Bool, false, cond}
 use mathlib.Core.List.{List}

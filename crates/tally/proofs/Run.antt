@@ -3,8 +3,7 @@
 --     listed-ordinary   a superframe that was taken at either radius adds to the listing what its ordinary readings are
 --     blocks-counted    the blocks that are clean, mended and bad are 512 for each superframe that was not lost
 -- Assumes nothing.
-use mathlib.Core.Path.{_≡_, refl, sym, ap, _∙_}
-use mathlib.Core.Bool.{true, false, cond}
+use mathlib.Core.Path.{_≡_, refl, ap, _∙_}
 use mathlib.Core.List.{List, [], _∷_}
 use Prim.Native.Nat.{ℕ, suc, _+_, _*_, _-_, _^_, _≤_}
 use native.Mathlib.Nat.{min-eq-left}
@@ -12,12 +11,13 @@ use native.Mathlib.Omega.{arith}
 use borrow.Author.Tests.{eq-eqb, eqb-true}
 use lib.Dec.{eqb}
 use lib.ListN.{length}
+use Rattle.bits.specs.Table.{total}
 use Rattle.bits.proofs.Tests.{either-way}
 use Rattle.reel.specs.Header.{mostSuperframes}
 use Rattle.reading.specs.Reading.{ordinary}
 use Rattle.tape.specs.Tape.{synced, kindIn, blocksOf, noBlocks, refusedCounts, countedWith, syncNumber, countsOf}
 use Rattle.tally.specs.Totals.{grown, sumOf, noTotals, withCounted, addedTo, stepOf, listedWith, stepped, totalsFrom, totalsOf}
-use Rattle.tally.specs.Reel.{isLost, syncIn, blocksWith, total, counted, Superframes}
+use Rattle.tally.specs.Reel.{isLost, syncIn, blocksWith, counted, Superframes}
 use Rattle.tape.proofs.Wrong.{wrong-most}
 use Rattle.tape.specs.declared.blocks.Counted.{Counted}
 use Rattle.tally.specs.declared.Totals.{Totals}

@@ -3,15 +3,15 @@
 --     syncIn sf             the wrong bits of its 128 syncs, added; none of a lost one, not even those of its good frames
 --     kindOnTape sf t       what block t of its 512, in tape order, is by the ordinary reading: 0 clean, 1 mended, 2 bad
 --     blocksWith k sf       how many of its 512 blocks are of kind k; none of a lost one
---     total f sfs           the sum of a number over some superframes
 --     counted sfs           all six totals of some superframes
 --     Superframes sfs       each is a whole superframe, by its length
-use Prim.Native.Nat.{ℕ, _+_}
+use Prim.Native.Nat.{ℕ}
 use mathlib.Core.Path.{_≡_}
 use mathlib.Core.Bool.{cond}
 use mathlib.Core.List.{List, [], _∷_}
 use lib.Dec.{eqb}
 use lib.ListN.{length, getD}
+use Rattle.bits.specs.Table.{total}
 use Rattle.reading.specs.Reading.{ordinary}
 use Rattle.block.specs.Read.{bad}
 use Rattle.block.specs.Mark.{kindOf}
@@ -29,10 +29,6 @@ kindOnTape sf t = kindOf (getD (readings ordinary sf) t bad)
 
 unfoldable pub blocksWith : ℕ → List ℕ → ℕ
 blocksWith k sf = cond (synced sf) (howMany 512 (λ t. eqb (kindOnTape sf t) k)) 0
-
-unfoldable pub total : (List ℕ → ℕ) → List (List ℕ) → ℕ
-total f [] = 0
-total f (sf ∷ sfs) = f sf + total f sfs
 
 unfoldable pub counted : List (List ℕ) → Totals
 counted sfs =

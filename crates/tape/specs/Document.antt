@@ -3,6 +3,7 @@
 --     channelOf q side              the channel of programme q, side 1 the left and 2 the right: "channels of programmes 1 to 16 in order, left first"
 --     Carries f b q frame place     "Block b of A carries stereo programmes 2b-1 and 2b; block b of B carries 2b+7 and 2b+8": block b of main frame `frame` of
 --                                   the 128 carries programme q in frame number f of the 64, as the first (place 1) or the second (place 2) of its two
+--     oneOf m n q                   q is one of the two
 --     carriesOnTape t q             the same as a test: block t of the 512, in tape order and counted from 0, carries programme q
 --     programmeBlocks radius k q sf     how many of the 512 blocks carry programme q and are of kind k at a radius: 0 clean, 1 mended, 2 bad
 --     wrongBit sf f k               bit k of the sync of main frame f is not that of its letter's word; f and k count from 0
