@@ -1,4 +1,6 @@
 // What a superframe carries beside its sound: the extra bits of the 16 programmes, and the service bits.
+#![tactic(auto)]
+
 ghost use Rattle.std.specs.Prelude.{◌≡◌, ◌<◌};
 ghost use Rattle.beside.specs.Beside.{extra_bit, extra_bits, extra_of, factor_or, programmes_of, programmes_answer, service_bits, six_of, sync_of, six_answer};
 

@@ -1,4 +1,6 @@
 // The text of what a superframe carries beside its sound, in a transcript (docs/TRANSCRIPT.md): five lines, put into a lent buffer.
+#![tactic(auto)]
+
 ghost use Rattle.std.specs.Prelude.{◌≡◌};
 ghost use Rattle.bits.specs.Digits.{digits};
 ghost use Rattle.text.specs.Page.{page, put_text};

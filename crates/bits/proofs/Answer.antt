@@ -4,7 +4,7 @@
 --     by-test, by-test-refused    an answer that goes by a test: what it says tells which way the test went
 --     first f d vs          f of the first value, and d where there is none: an answer of the code, from document 01's
 -- Assumes nothing.
-use mathlib.Core.Path.{◌≡◌, refl, sym, ap, ◌∙◌}
+use mathlib.Core.Path.{◌≡◌, refl, sym, ap}
 use mathlib.Core.Bool.{Bool, true, false, cond}
 use mathlib.Core.List.{List, [], ◌∷◌}
 use Prim.Native.Nat.{ℕ, suc}

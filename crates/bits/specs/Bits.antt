@@ -8,7 +8,7 @@
 --     ones bits         how many of the bits are 1
 --     all_below b l      whether each of some numbers is less than a bound
 --     are_bits l         whether each is a bit: 0 or 1
-use Rattle.std.specs.Prelude.{ℕ, ◌+◌, ◌*◌, ◌-◌, ◌/◌, ◌%◌, ◌^◌, Bool, List, [], ◌∷◌, ltb, length, get_or}
+use Rattle.std.specs.Prelude.{ℕ, ◌+◌, ◌*◌, ◌/◌, ◌%◌, Bool, List, [], ◌∷◌, ltb, length, get_or}
 use Rattle.bits.specs.Table.{tabulate, every}
 use Rattle.bits.specs.Digits.{value, digits}
 

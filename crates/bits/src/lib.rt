@@ -1,4 +1,6 @@
 // Bits of bytes and bytes of bits (docs/FORMAT.md, "Path of a reel"). Every function takes any slice and any place, and says what it gives past the end.
+#![tactic(auto)]
+
 ghost use Rattle.std.specs.Prelude.{◌≡◌, ◌+◌, ◌%◌, ◌<◌, get_or};
 ghost use Rattle.bits.specs.Bits.{bit_at, byte_at, all_below, are_bits};
 

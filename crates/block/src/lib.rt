@@ -1,4 +1,6 @@
 // Reading a block: 77 bits held as [u8; 77], one number per bit (docs/FORMAT.md, "The block").
+#![tactic(auto)]
+
 ghost use Rattle.std.specs.Prelude.{◌≡◌, ◌<◌, true};
 ghost use Rattle.reading.specs.Reading.{is_radius};
 ghost use Rattle.reading.specs.Wrong.{turn, answer, wrong_places};

@@ -1,4 +1,6 @@
 // What a block carries: the 14-bit codes of four channels and two extra bits (docs/FORMAT.md, "The block").
+#![tactic(auto)]
+
 ghost use Rattle.std.specs.Prelude.{◌≡◌, true, ◌<◌};
 ghost use Rattle.bits.specs.Digits.{value};
 ghost use Rattle.bits.specs.Bits.{are_bits};

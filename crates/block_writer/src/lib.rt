@@ -1,4 +1,6 @@
 // Writing a block: 77 bits, one number per bit, of four codes and two extra bits (docs/FORMAT.md, "The block").
+#![tactic(auto)]
+
 ghost use Rattle.std.specs.Prelude.{◌≡◌, ◌&&◌, ◌<◌, get_or};
 ghost use Rattle.bits.specs.Table.{every};
 ghost use Rattle.bits.specs.Bits.{are_bits};

@@ -1,5 +1,7 @@
 // The two codes of document 01 (docs/FORMAT.md): their generators as numbers, and the check bits and remainders that they give. An entry of bits that is
 // neither 0 nor 1 counts as its lowest binary digit.
+#![tactic(auto)]
+
 mod byte_table; // byte_table.rt: what each byte leaves by the block's generator
 
 ghost use Rattle.std.specs.Prelude.{◌≡◌};

@@ -1,6 +1,8 @@
 // The remainder of bits by a generator of degree 19, eight bits at a time (document 02, P3), by a table of 256 numbers that is lent: a constant is stored anew
 // wherever its name stands, so whoever divides much makes the table once. Of any table it is said what comes out; with the remainders of a generator in it,
 // that is the remainder (proofs/Whole.antt).
+#![tactic(auto)]
+
 ghost use Rattle.std.specs.Prelude.{◌≡◌, ◌<◌};
 ghost use Rattle.eights.specs.Eights.{step_by, word_by, row_by, check_by};
 

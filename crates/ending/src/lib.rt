@@ -1,5 +1,7 @@
 // How a program ended, and the word that says so. A proved program has no status of its own: it says how it ended in a word, on the descriptor that
 // its first argument names, and without such an argument it says nothing.
+#![tactic(auto)]
+
 ghost use Rattle.std.specs.Prelude.{◌≡◌};
 ghost use Rattle.text.specs.Page.{page, put_text};
 ghost use Rattle.ending.specs.Word.{descriptor_of, ending_of, error_line, file_line, word_of};

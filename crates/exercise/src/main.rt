@@ -1,5 +1,7 @@
 // Makes the calls that standard input asks for, a line each, and writes each line with its answer behind it, so that a program that shares
 // nothing with this one can check the answers. second/README.md, "Call lines", has the form of lines and answers.
+#![tactic(auto)]
+
 mod blocks; // blocks.rt: bwrite, bread, bcodes
 mod draws; // draws.rt: numbers that look random
 mod frames; // frames.rt: fwrite, fread

@@ -1,4 +1,6 @@
 // The folder for the restorers (docs/HAND-ON.md): the names of its 53 files, which have numbers from 0 on, and the lines of `about.txt`.
+#![tactic(auto)]
+
 ghost use Rattle.std.specs.Prelude.{◌≡◌, ◌<◌};
 ghost use Rattle.text.specs.Page.{page, put_text};
 ghost use Rattle.text.specs.Entry.{entered, entered_text};

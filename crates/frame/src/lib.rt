@@ -1,4 +1,6 @@
 // Main frames, their layout and how they are read (docs/FORMAT.md, "Main frame"): 320 bits in 40 bytes, two kinds, A and B.
+#![tactic(auto)]
+
 ghost use Rattle.std.specs.Prelude.{◌≡◌, ℕ, ◌+◌, ◌-◌, ◌*◌, ◌/◌, ◌%◌, ◌^◌, ◌<◌, ◌≤◌, length};
 ghost use Rattle.bits.specs.Table.{tabulate};
 ghost use Rattle.bits.specs.Bits.{bit_at};

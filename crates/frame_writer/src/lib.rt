@@ -1,4 +1,6 @@
 // Main frames written (docs/FORMAT.md, "Main frame"): their 320 bits put into 40 lent bytes.
+#![tactic(auto)]
+
 ghost use Rattle.std.specs.Prelude.{◌≡◌, [], ◌∷◌, ◌++◌, length};
 ghost use Rattle.bits.specs.Bits.{bytes_of};
 ghost use Rattle.frame.specs.Frame.{sync_word, interleave};

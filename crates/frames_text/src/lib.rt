@@ -1,4 +1,6 @@
 // The text of a superframe's sound in a transcript (docs/TRANSCRIPT.md): two lines for each frame, put into a lent buffer.
+#![tactic(auto)]
+
 ghost use Rattle.std.specs.Prelude.{◌≡◌, length};
 ghost use Rattle.text.specs.Page.{page, put_text};
 ghost use Rattle.frames_text.specs.Frames.{marks_line, samples_line, frames_text, frames_put};

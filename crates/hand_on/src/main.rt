@@ -1,6 +1,8 @@
 // Hands on the reel on standard input: fills the folder that it was started in with the files of docs/HAND-ON.md, and says how that ended.
 //     hand_on DESCRIPTOR REEL COMMIT RADIUS
 // The radius is 2 or 3, and without it 2. REEL and COMMIT stand in `about.txt` as they are given. Where a file fails, its name stands behind the word.
+#![tactic(auto)]
+
 mod files; // files.rt: the 53 files, made, written and on the disk
 mod going; // going.rt: what goes on from superframe to superframe
 mod pages; // pages.rt: the sound and the marks of some superframes, before they are written

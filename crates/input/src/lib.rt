@@ -1,5 +1,7 @@
 // A reel that comes on standard input, in pieces: its header, and the bytes before its first superframe; and the radius that it shall be read at.
 // What comes from outside is not promised; what is made of it is. A read that fails is not the end of the reel: it is handed on by its error, 0 where none failed.
+#![tactic(auto)]
+
 mod fault;
 mod radius;
 

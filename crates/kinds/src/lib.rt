@@ -1,4 +1,6 @@
 // The kind of each pair of a programme: 0 untroubled, 1 bad, 2 no factor, 3 lost.
+#![tactic(auto)]
+
 ghost use Rattle.std.specs.Prelude.{◌≡◌, ◌≤◌, length};
 ghost use Rattle.bits.specs.Table.{tabulate};
 ghost use Rattle.kinds.specs.Kinds.{troubling, kind_of, pair_kind, kinds_of, lost_kinds};

@@ -1,4 +1,6 @@
 // Writes the listing of a reel that comes on standard input (docs/FORMAT.md, "Reel file and listing"), and says how that ended.
+#![tactic(auto)]
+
 use ending::Ended;
 use reel::HeaderRead;
 use tally::Totals;

@@ -1,4 +1,6 @@
 // The text of a listing (docs/FORMAT.md, "Reel file and listing"), put into a lent buffer.
+#![tactic(auto)]
+
 ghost use Rattle.std.specs.Prelude.{◌≡◌};
 ghost use Rattle.text.specs.Page.{page, put_text};
 ghost use Rattle.text.specs.Entry.{entered, entered_text};

@@ -1,6 +1,8 @@
 // Which of the 63 protected bits of a block are wrong, from the remainder that they leave, looked up in tables that are lent (document 02, P3): what each place
 // alone leaves, what each pair of places leaves, the places of each pair, and where the pairs with the same upper digits begin. Of any tables it is said what
 // comes out; with the true ones those are the wrong places (proofs/Wrong.antt).
+#![tactic(auto)]
+
 ghost use Rattle.std.specs.Prelude.{◌≡◌, ◌%◌, ◌^◌};
 ghost use Rattle.reading.specs.Wrong.{answer};
 ghost use Rattle.lookup.specs.Search.{first_in, last_of, pair_by, two_by, three_by, places_by};

@@ -1,4 +1,6 @@
 // The lines of labels in the list of names, put into a lent buffer while superframes go by, and the labels that were noted last.
+#![tactic(auto)]
+
 ghost use Rattle.std.specs.Prelude.{◌≡◌, false, cond, [], ◌∷◌, ◌%◌, ◌<◌, eqb, length};
 ghost use Rattle.bits.specs.Letters.{letters};
 ghost use Rattle.text.specs.Page.{page, put_text};

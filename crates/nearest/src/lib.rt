@@ -1,4 +1,6 @@
 // The extra bits of a programme read: 42 bits as the nearest of the 64 scale words sent three times, and the information word (docs/FORMAT.md, "Scale words").
+#![tactic(auto)]
+
 mod sent_table; // sent_table.rt: the 64 scale words sent three times
 
 ghost use Rattle.std.specs.Prelude.{◌≡◌, ◌≤◌, ◌<◌, ◌^◌};

@@ -1,6 +1,8 @@
 // For programs in other languages: a superframe taken at a radius over lent bytes alone. What is carried from one to the next, but for the service and the
 // running totals, and the counts stand in 88 bytes: the factors of the 32 channels for the next superframe and those for the one after it, and for each of the
 // eight block positions how many blocks were clean, mended and bad, which a caller may add up.
+#![tactic(auto)]
+
 ghost use Rattle.std.specs.Prelude.{◌≡◌, ◌+◌, ◌≤◌, ◌<◌, length, get_or};
 ghost use Rattle.bits.specs.Table.{tabulate};
 ghost use Rattle.outside.specs.Outside.{state_from, packed_at, TookOutside};

@@ -1,5 +1,7 @@
 // What all 1,953 pairs of the 63 places leave (document 02, P3): the remainders in ascending order, the two places beside each, and an index by the upper
 // digits before them. A constant is stored anew wherever its name stands, so whoever looks much up makes the tables once and lends them.
+#![tactic(auto)]
+
 mod pair_table; // pair_table.rt: what each pair of places leaves
 mod place_table; // place_table.rt: the two places of each
 mod start_table; // start_table.rt: where those with the same upper digits begin

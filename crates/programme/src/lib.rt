@@ -1,4 +1,6 @@
 // The programme byte and the short names of the programme types (docs/FORMAT.md, "Service groups", programme bytes).
+#![tactic(auto)]
+
 ghost use Rattle.std.specs.Prelude.{◌≡◌};
 ghost use Rattle.bits.specs.Bits.{ones};
 ghost use Rattle.programme.specs.Byte.{eight, read_byte, write_byte, read_answer, write_answer};

@@ -1,4 +1,6 @@
 // Which of the 63 protected bits of a block are wrong, at most two or at most three of them, and what each alone leaves as a remainder.
+#![tactic(auto)]
+
 ghost use Rattle.std.specs.Prelude.{◌≡◌};
 ghost use Rattle.reading.specs.Reading.{is_radius};
 ghost use Rattle.reading.specs.Wrong.{column_numbers};

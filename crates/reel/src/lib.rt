@@ -1,4 +1,6 @@
 // The reel file's header, and runs of superframes (docs/FORMAT.md, "Reel file and listing").
+#![tactic(auto)]
+
 ghost use Rattle.std.specs.Prelude.{◌≡◌, ◌+◌, ◌<◌, ◌≤◌, length};
 ghost use Rattle.reel.specs.Header.{number_at, good_header, header_of, header_answer};
 ghost use Rattle.reel.specs.Run.{run_of, run_answer, part_number, part_of};

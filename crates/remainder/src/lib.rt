@@ -1,4 +1,6 @@
 // The remainder of bits by a generator, in a register that is a number: one function for every generator of a degree up to 31.
+#![tactic(auto)]
+
 ghost use Rattle.std.specs.Prelude.{◌≡◌, ◌≤◌, ◌<◌, ◌^◌};
 ghost use Rattle.bits.specs.Digits.{digits};
 ghost use Rattle.remainder.specs.Remainder.{step, remainder_number, check_number};

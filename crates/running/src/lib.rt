@@ -1,5 +1,7 @@
 // The running totals of a history (document 02, P7; docs/FORMAT.md, "Running totals"): how many superframes were given since it began, taken or lost, and how
 // the blocks of each programme were read in those that were taken. A block belongs to two programmes, and counts for both.
+#![tactic(auto)]
+
 ghost use Rattle.std.specs.Prelude.{◌≡◌};
 ghost use Rattle.running.specs.Running.{adds_up, sums_fit, given_in, running_in_range, has_room, no_running, Bounded, added_to, step_number, taken_step, lost_step};
 

@@ -1,4 +1,6 @@
 // Samples and their codes at a factor, and the factor of 64 samples (docs/FORMAT.md, "Samples" and "Scale words").
+#![tactic(auto)]
+
 pub mod pattern; // pattern.rt: a code as the number that its 14 bits make, and back
 
 ghost use Rattle.std.specs.Prelude.{◌≡◌, ℕ, ◌-◌, ◌^◌, ltb};

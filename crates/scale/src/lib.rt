@@ -1,4 +1,6 @@
 // Scale words written: the factors of a programme's two channels (docs/FORMAT.md, "Scale words").
+#![tactic(auto)]
+
 ghost use Rattle.std.specs.Prelude.{◌≡◌, ◌/◌, ◌%◌, ◌<◌};
 ghost use Rattle.bits.specs.Digits.{value, digits};
 ghost use Rattle.scale.specs.Word.{scale_word, written_scale};

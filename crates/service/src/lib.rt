@@ -1,5 +1,7 @@
 // The service machine (docs/FORMAT.md, "Service groups"): what six service bytes and the sync behind them make of the group that is open
 // and of the labels gathered so far. Every function takes any numbers; what is out of its range is answered with number 2.
+#![tactic(auto)]
+
 ghost use Rattle.std.specs.Prelude.{◌≡◌};
 ghost use Rattle.service.specs.Service.{searching_service, in_range, accepts, refused_service, served};
 

@@ -1,5 +1,7 @@
 // What six service bytes do (docs/FORMAT.md, "Service groups"): they go to their place in the open group, and a complete group brings the separator or a
 // character for each label. Every function takes any numbers: at position 0, or over 8, the bytes are of no group, and a stage over 8 is past the labels.
+#![tactic(auto)]
+
 ghost use Rattle.std.specs.Prelude.{◌≡◌, ◌<◌};
 ghost use Rattle.bits.specs.Table.{tabulate};
 ghost use Rattle.service_group.specs.Places.{in_order};

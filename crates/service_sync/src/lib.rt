@@ -1,5 +1,7 @@
 // The two syncs of the service (docs/FORMAT.md, "Service groups"), and what one does behind the six bytes at a position: it opens a group,
 // continues one, or drops. Every function takes any numbers: 16 that are no bits are neither sync, and no group is open behind a position over 8.
+#![tactic(auto)]
+
 ghost use Rattle.std.specs.Prelude.{◌≡◌};
 ghost use Rattle.service_sync.specs.Sync.{agree, kind_of, is_open, next_position, drops_with, number_of};
 

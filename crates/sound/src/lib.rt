@@ -1,5 +1,7 @@
 // The samples and marks of a superframe, read at a radius, at given factors (docs/FORMAT.md, "Superframe"; document 02, P9), each of its 512 blocks into its
 // own four places of two lent slices.
+#![tactic(auto)]
+
 ghost use Rattle.std.specs.Prelude.{◌≡◌, true, ◌+◌, ◌*◌, ◌<◌, length};
 ghost use Rattle.bits.specs.Table.{tabulate};
 ghost use Rattle.sample.specs.Sample.{is_code};

@@ -1,5 +1,7 @@
 // What a program reads and writes, with the failures told: a call of the system that fails is not the end of what it reads, and behind a write that
 // failed nothing is written. An error is C's number of it, and 0 is none. Which bytes come and go cannot be promised, as the system moves them.
+#![tactic(auto)]
+
 mod progress;
 
 ghost use Rattle.std.specs.Prelude.{◌≡◌, ◌<◌, ◌≤◌, pos, length};

@@ -1,5 +1,6 @@
 // The stretches of a programme that need an ear, as a label track: put line by line into a lent buffer while superframes go by, in the way of
 // `text`, from a place on, as far as there is room.
+#![tactic(auto)]
 
 ghost use Rattle.std.specs.Prelude.{◌≡◌, [], ◌∷◌, ◌+◌, ◌*◌, ◌<◌, ltb, length, take, drop};
 ghost use Rattle.text.specs.Page.{page, put_text};

@@ -1,4 +1,6 @@
 // The reader's state and what it does with a superframe (docs/FORMAT.md, "Superframe").
+#![tactic(auto)]
+
 mod state;
 mod taking;
 

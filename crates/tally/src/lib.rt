@@ -1,4 +1,6 @@
 // The totals of a listing (docs/FORMAT.md, "Reel file and listing"), which grow by one superframe at a time.
+#![tactic(auto)]
+
 ghost use Rattle.std.specs.Prelude.{◌≡◌};
 ghost use Rattle.tally.specs.Totals.{grown, is_counted, sum_of, no_totals, added_to, step_of, listed_with};
 

@@ -1,4 +1,6 @@
 // The syncs and the blocks of a superframe, from its bytes alone (docs/FORMAT.md, "Superframe").
+#![tactic(auto)]
+
 mod blocks;
 mod frames;
 

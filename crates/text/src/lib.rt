@@ -1,5 +1,7 @@
 // Text put into a lent buffer. Every function takes the place where the text starts and answers the place behind it. What does not fit is left
 // out, all other bytes stay as they were, and the place answered is then past the buffer's end: so it says whether anything was left out.
+#![tactic(auto)]
+
 ghost use Rattle.std.specs.Prelude.{◌≡◌, [], ◌∷◌};
 ghost use Rattle.text.specs.Page.{page, put_text};
 ghost use Rattle.text.specs.Entry.{placed_within};

@@ -1,4 +1,6 @@
 // Lists put into a lent buffer as rows of digits, in the way of `text`: from a place on, and the place behind says whether all of it fitted.
+#![tactic(auto)]
+
 ghost use Rattle.std.specs.Prelude.{◌≡◌};
 ghost use Rattle.text.specs.Page.{page, put_text};
 ghost use Rattle.text_rows.specs.Rows.{row, hex_digit, hex_byte, hexadecimal};

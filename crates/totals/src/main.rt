@@ -1,6 +1,8 @@
 // Writes the running totals of a reel that comes on standard input (document 02, P7; docs/HAND-ON.md, "totals.txt"), and says how that ended.
 //     totals DESCRIPTOR RADIUS
 // The radius is 2 or 3, and without it 2.
+#![tactic(auto)]
+
 use ending::Ended;
 use reel::HeaderRead;
 use running::Running;

@@ -1,4 +1,6 @@
 // The text of running totals (document 02, P7; docs/HAND-ON.md, "totals.txt"), put into a lent buffer. Programmes count from 0 here, and from 1 in the text.
+#![tactic(auto)]
+
 ghost use Rattle.std.specs.Prelude.{◌≡◌};
 ghost use Rattle.text.specs.Page.{page, put_text};
 ghost use Rattle.text.specs.Entry.{entered, entered_text};

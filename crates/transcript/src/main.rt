@@ -2,6 +2,8 @@
 // one can be compared with it, and says how that ended. docs/TRANSCRIPT.md has the form of the lines.
 //     transcript DESCRIPTOR RADIUS
 // The radius is 2 or 3, and without it 2.
+#![tactic(auto)]
+
 use ending::Ended;
 use reel::HeaderRead;
 use superframe::State;

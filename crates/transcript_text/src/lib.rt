@@ -1,4 +1,6 @@
 // The text of a transcript (docs/TRANSCRIPT.md): the lines of a superframe, put into a lent buffer.
+#![tactic(auto)]
+
 ghost use Rattle.std.specs.Prelude.{◌≡◌, length};
 ghost use Rattle.text.specs.Page.{page, put_text};
 ghost use Rattle.text.specs.Entry.{entered};

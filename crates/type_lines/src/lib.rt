@@ -1,4 +1,6 @@
 // The lines of programme types in the list of names, put into a lent buffer while superframes go by, and what was noted last.
+#![tactic(auto)]
+
 ghost use Rattle.std.specs.Prelude.{◌≡◌, cond, ◌≤◌, eqb, length, take};
 ghost use Rattle.bits.specs.Letters.{letters};
 ghost use Rattle.text.specs.Page.{page, put_text};

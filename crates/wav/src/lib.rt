@@ -1,4 +1,6 @@
 // The header of a RIFF WAVE file of pairs, put into a lent buffer: of a programme's sound, two bytes a sample, and of its marks, one.
+#![tactic(auto)]
+
 pub mod number; // number.rt: numbers in bytes, the lowest first
 
 ghost use Rattle.std.specs.Prelude.{◌≡◌, ◌*◌, ◌≤◌};

@@ -1,4 +1,6 @@
 // The bytes of a programme's 64 pairs in a superframe: its sound, and its marks.
+#![tactic(auto)]
+
 ghost use Rattle.std.specs.Prelude.{◌≡◌, [], ◌∷◌, ◌≤◌, length};
 ghost use Rattle.sample.specs.Pattern.{pattern_of};
 ghost use Rattle.text.specs.Page.{page, put_text};

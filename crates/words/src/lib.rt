@@ -1,6 +1,8 @@
 // A block's mark and codes, with its 63 protected bits as one number: the remainder eight bits at a time, the wrong places looked up, and the places turned in
 // the number. The tables are lent (document 02, P3). Of any tables it is said what comes out; with the true ones it is the block as it is read
 // (proofs/Words.antt).
+#![tactic(auto)]
+
 ghost use Rattle.std.specs.Prelude.{◌≡◌, ◌<◌};
 ghost use Rattle.bits.specs.Table.{tabulate};
 ghost use Rattle.reading.specs.Wrong.{answer};

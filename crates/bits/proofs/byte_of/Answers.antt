@@ -1,0 +1,7 @@
+-- `bits::byte_of` meets its contract: past the end `get_or` gives its default. Assumes nothing.
+use mathlib.Core.Path.{sym}
+use lib.ListN.{get_or-eq_default}
+use Rattle.bits.proofs.byte_of.Goals as goal
+
+pub returns-else-i-bytes : goal.returns-else-i-bytes
+returns-else-i-bytes c = sym (get_or-eq_default c.args.bytes.now 0 c.if-i-bytes.false)
