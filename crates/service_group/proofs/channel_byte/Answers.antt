@@ -1,0 +1,8 @@
+-- `service_group::channel_byte` meets its contract. Assumes nothing.
+use borrow.Author.Rules.{rules}
+use Rattle.service_group.specs.Six.{channel_byte}
+use Rattle.service_group.proofs.channel_byte.Goals as goal
+
+pub returns : goal.returns
+unfolding channel_byte
+returns c = c.in_order.ensures
