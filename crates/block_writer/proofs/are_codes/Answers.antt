@@ -22,7 +22,7 @@ loop-i-init c = (search rules, refl)
 pub returns-then-not-is_code : goal.returns-then-not-is_code
 returns-then-not-is_code c =
     let tested : c.is_code.result ≡ is_code (get_or c.args.codes c.loop-i.i (pos 0)) = let code = get_or c.args.codes c.loop-i.i (pos 0) in
-    c.is_code.ensures ∙ ap is_code (to_z-of_z w16 code (record { sfits = c.is_code-arg-1.given })) in
+    c.is_code.ensures ∙ ap is_code (to_z-of_z w16 code (record { sfits = search rules })) in
     let codes = c.args.codes in
     let four : length codes ≡ 4 = search rules in
     sym (every-fails is_code codes c.loop-i.i (pos 0) (omega arith) (sym tested ∙ c.if-not-is_code.true))
@@ -30,7 +30,7 @@ returns-then-not-is_code c =
 pub loop-i-preserved : goal.loop-i-preserved
 loop-i-preserved c =
     let tested : c.is_code.result ≡ is_code (get_or c.args.codes c.loop-i.i (pos 0)) = let code = get_or c.args.codes c.loop-i.i (pos 0) in
-    c.is_code.ensures ∙ ap is_code (to_z-of_z w16 code (record { sfits = c.is_code-arg-1.given })) in
+    c.is_code.ensures ∙ ap is_code (to_z-of_z w16 code (record { sfits = search rules })) in
     let codes = c.args.codes in
     let four : length codes ≡ 4 = search rules in
     let l = c.loop-i in

@@ -24,7 +24,7 @@ loop-j-preserved c =
     let code = get_or codes (l.j / 11) (pos 0) in
     let bit : c.code_bit.result ≡ get_or (sound codes) l.j 0 =
     c.code_bit.ensures
-    ∙ ap (λ (z : ℤ). get_or (code_bits z) (l.j % 11) 0) (to_z-of_z w16 code (record { sfits = c.code_bit-arg-1.given }))
+    ∙ ap (λ (z : ℤ). get_or (code_bits z) (l.j % 11) 0) (to_z-of_z w16 code (record { sfits = search rules }))
     ∙ sound-at codes l.j (omega arith) in
     (search rules, search rules, toward (sound codes) l.out l.j _ 0 (omega arith) (omega (arith, length-sound codes)) l.invariant.2 bit)
 

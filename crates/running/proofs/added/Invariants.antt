@@ -1,0 +1,20 @@
+-- `running::added` meets its contract. Assumes nothing.
+use mathlib.Core.Path.{◌≡◌, refl, ap}
+use mathlib.Core.List.{List}
+use Prim.Native.Nat.{ℕ, ◌+◌, ◌-◌, ◌/◌, ◌≤◌}
+use native.Mathlib.Omega.{arith}
+use lib.ListN.{length, get_or, take}
+use Rattle.bits.specs.Table.{tabulate}
+use Rattle.bits.proofs.Table.{tab-more, tab-done}
+use Rattle.running.specs.Running.{added_to}
+use borrow.Author.Rules.{rules}
+use Rattle.running.proofs.added.Given as goal
+
+abbrev pub one : List ℕ → List ℕ → ℕ → ℕ
+one totals counts q = get_or totals q 0 + get_or counts (q / 2) 0
+
+abbrev pub invariant-loop-q : goal.invariant-loop-q
+invariant-loop-q l = (l.q ≤ 16) × (length l.out ≡ 16) × (take l.q l.out ≡ tabulate l.q (one l.totals l.counts))
+
+abbrev pub decreases-loop-q : goal.decreases-loop-q
+decreases-loop-q l = 16 - l.q

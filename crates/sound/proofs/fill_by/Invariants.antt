@@ -1,0 +1,24 @@
+-- `sound::fill_by` meets its contract. Assumes nothing.
+use mathlib.Core.Path.{◌≡◌, sym, ap, ◌∙◌}
+use mathlib.Core.List.{[]}
+use Prim.Native.Nat.{◌-◌, ◌*◌, ◌≤◌}
+use native.Mathlib.Omega.{arith}
+use lib.ListN.{length, take, length-take, length-drop}
+use Rattle.bits.specs.Table.{tabulate}
+use Rattle.bits.proofs.Table.{tab-none, tab-more, tab-done, filled, filled_zero, filled-all, length-filled}
+use Rattle.tape.specs.Tape.{block_mark, in_eights}
+use Rattle.sound.specs.Sound.{sample_at, mark_at, in_rows, samples_of, marks_of}
+use Rattle.sound.proofs.Samples.{part-back}
+use borrow.Author.Rules.{rules}
+use Rattle.sound.proofs.fill_by.Given as goal
+
+abbrev pub invariant-loop-n : goal.invariant-loop-n
+invariant-loop-n l =
+    (l.n ≤ 512)
+    × (l.samples ≡ filled (in_rows (sample_at l.radius l.sf l.factors)) (4 * l.n) l.initial.samples)
+    × (l.marks ≡ filled (in_rows (mark_at l.radius l.sf l.factors)) (4 * l.n) l.initial.marks)
+    × (length l.out ≡ 512)
+    × (take l.n l.out ≡ tabulate l.n (in_eights (block_mark l.radius l.sf)))
+
+abbrev pub decreases-loop-n : goal.decreases-loop-n
+decreases-loop-n l = 512 - l.n

@@ -1,0 +1,20 @@
+-- `tape::blocks::tally` meets its contract. Assumes nothing.
+use mathlib.Core.Path.{◌≡◌, refl, sym, ap, ◌∙◌}
+use mathlib.Core.Bool.{Bool}
+use mathlib.Core.Logic.{⊎_elim}
+use Prim.Native.Nat.{ℕ, ◌+◌, ◌-◌, ◌*◌, ◌≤◌}
+use native.Mathlib.Omega.{arith}
+use borrow.Author.Tests.{eq-eqb, ne_eqb}
+use lib.Dec.{eqb}
+use lib.ListN.{get_or}
+use Rattle.tape.specs.Tape.{how_many}
+use Rattle.tape.proofs.Tape.{many-yes, many-no}
+use borrow.Author.Rules.{rules}
+use Rattle.tape.proofs.blocks.tally.Given as goal
+
+abbrev pub invariant-loop-f : goal.invariant-loop-f
+invariant-loop-f l =
+    (l.f ≤ 64) × (l.sum ≡ how_many l.f (λ f. eqb (get_or l.marks (8 * f + l.p) 0) l.mark)) × (l.sum ≤ l.f)
+
+abbrev pub decreases-loop-f : goal.decreases-loop-f
+decreases-loop-f l = 64 - l.f

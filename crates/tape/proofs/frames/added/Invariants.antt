@@ -1,0 +1,17 @@
+-- `tape::frames::added` meets its contract. Assumes nothing.
+use mathlib.Core.Path.{◌≡◌, refl, sym, ap₂, ◌∙◌}
+use Prim.Native.Nat.{ℕ, ◌+◌, ◌-◌, ◌*◌, ◌≤◌, ◌<◌}
+use native.Mathlib.Omega.{arith}
+use borrow.Author.Count.{below_more}
+use Rattle.frame.specs.Read.{most_wrong}
+use Rattle.tape.specs.Tape.{wrong_at, sum_to, wrong_bits, syncs_added}
+use Rattle.tape.proofs.Tape.{all-sync, not-sync, sum_more}
+use borrow.Author.Rules.{rules}
+use Rattle.tape.proofs.frames.added.Given as goal
+
+abbrev pub invariant-loop-f : goal.invariant-loop-f
+invariant-loop-f l =
+    (l.f ≤ 128) × ((k : ℕ) → k < l.f → wrong_at l.sf k ≤ most_wrong) × (l.wrong ≡ sum_to l.f (wrong_at l.sf)) × (l.wrong ≤ 2 * l.f)
+
+abbrev pub decreases-loop-f : goal.decreases-loop-f
+decreases-loop-f l = 128 - l.f
