@@ -7,7 +7,7 @@ ghost use Rattle.beside.specs.Beside.{extra_bit, extra_bits, extra_of, factor_or
 use nearest::Extra;
 
 // The extra bits of the 16 programmes as they read.
-#[derive(Drop)]
+#[derive(Clone, Copy)]
 pub struct Programmes {
     // 0; 5: two or more scale words are equally near; 1: the bytes are no superframe
     pub numbers: [u8; 16],
@@ -20,7 +20,7 @@ pub struct Programmes {
 }
 
 // The 64 service bits of a superframe, and number 0; or number 1 and zeros.
-#[derive(Drop)]
+#[derive(Clone, Copy)]
 pub struct SixAndSync {
     pub number: u8,
     // 1 to 48

@@ -9,7 +9,7 @@ ghost use Rattle.block.specs.Read.{is_readable, IsRead};
 use reading::Places;
 
 // What reading says of a block: with number 0 clean, mended with 1, 2 or 3 places turned, or bad; or number 2.
-#[derive(Drop)]
+#[derive(Clone, Copy)]
 pub enum BlockReading {
     Clean,
     Mended(u8),
@@ -18,7 +18,7 @@ pub enum BlockReading {
 }
 
 // The 77 bits as they then stand: with number 2 as they were given.
-#[derive(Drop)]
+#[derive(Clone, Copy)]
 pub struct BlockRead {
     pub reading: BlockReading,
     pub bits: [u8; 77],

@@ -8,7 +8,7 @@ ghost use Rattle.block.specs.Layout.{fourteen, code_place};
 ghost use Rattle.block_codes.specs.Codes.{codes_at, codes_of};
 
 // Number 0, the codes of the four channels and the extra bits of the two programmes; or number 2 and zeros.
-#[derive(Drop)]
+#[derive(Clone, Copy)]
 pub struct BlockCodes {
     pub number: u8,
     pub codes: [i16; 4],

@@ -10,7 +10,7 @@ ghost use Rattle.block.specs.Layout.{sound, block_with};
 ghost use Rattle.block_writer.specs.Written.{written_block};
 
 // Number 0 and the block, or number 2 and zeros.
-#[derive(Drop)]
+#[derive(Clone, Copy)]
 pub struct BlockWritten {
     pub number: u8,
     pub bits: [u8; 77],

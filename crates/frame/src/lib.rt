@@ -7,14 +7,14 @@ ghost use Rattle.bits.specs.Bits.{bit_at};
 ghost use Rattle.frame.specs.Frame.{sync_word, service_in};
 ghost use Rattle.frame.specs.Read.{wrong_sync, service_read, block_of, gathered_of, nothing, read_frame};
 
-#[derive(Drop)]
+#[derive(Clone, Copy)]
 pub enum Letter {
     A,
     B,
 }
 
 // Number 0, how many bits of the sync are wrong, the service bit and the four blocks; or number 1 or 3 and zeros.
-#[derive(Drop)]
+#[derive(Clone, Copy)]
 pub struct FrameRead {
     pub number: u8,
     pub wrong: u8,
@@ -26,7 +26,7 @@ pub struct FrameRead {
 }
 
 // Number 0 and a block; or number 1 or 2 and zeros.
-#[derive(Drop)]
+#[derive(Clone, Copy)]
 pub struct Gathered {
     pub number: u8,
     pub bits: [u8; 77],

@@ -5,7 +5,7 @@ ghost use Rattle.std.specs.Prelude.{◌≡◌, ◌≤◌, length};
 ghost use Rattle.bits.specs.Table.{tabulate};
 ghost use Rattle.kinds.specs.Kinds.{troubling, kind_of, pair_kind, kinds_of, lost_kinds};
 
-#[derive(Drop)]
+#[derive(Clone, Copy)]
 pub struct Kinds {
     // 0, or 1 where there are not 2,048 marks, or 2 where there is no such programme; then the kinds are zeros
     pub number: u8,

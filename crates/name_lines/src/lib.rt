@@ -11,13 +11,13 @@ ghost use Rattle.name_lines.specs.Names.{head_text, plain, quoted, label_line, s
 use text::Placed;
 
 // The labels noted last, 32 of eight characters; before the first there are none, and the places hold 0.
-#[derive(Drop)]
+#[derive(Clone, Copy)]
 pub struct Labels {
     pub known: bool,
     pub labels: [u8; 256],
 }
 
-#[derive(Drop)]
+#[derive(Clone, Copy)]
 pub struct Labelled {
     pub placed: Placed,
     pub noted: Labels,

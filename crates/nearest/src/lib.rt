@@ -12,7 +12,7 @@ ghost use Rattle.nearest.specs.Search.{sent_table, bits_from, better_of, Holds, 
 use sent_table::SENT;
 
 // What 42 bits read as: number 0, the left and the right factor, and in how many of the 42 places their word differs; number 5; or number 2.
-#[derive(Drop)]
+#[derive(Clone, Copy)]
 pub enum Reading {
     Factors(u8, u8, u8),
     Unreadable,
@@ -20,7 +20,7 @@ pub enum Reading {
 }
 
 // What the 64 extra bits of a programme read as. With number 5 the word comes all the same; what does not come is 0.
-#[derive(Drop)]
+#[derive(Clone, Copy)]
 pub struct Extra {
     pub number: u8,
     pub left: u8,
@@ -31,7 +31,7 @@ pub struct Extra {
 }
 
 // Of the pairs that were looked at one that differs in the fewest places, their number, and whether it is the only one.
-#[derive(Drop)]
+#[derive(Clone, Copy)]
 struct Best {
     pair: u8,
     places: u8,

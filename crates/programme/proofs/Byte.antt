@@ -4,20 +4,19 @@
 --     made-is, eight-made, made-even   the written byte, its bits, and that the number of its ones is even
 --     written-reads, read-writes       what is written reads back; what reads, writes back
 -- Assumes nothing.
-use mathlib.Core.Path.{◌≡◌, refl, sym, ap, ap₂, ◌∙◌, subst}
-use mathlib.Core.Bool.{Bool, true, false, cond, ◌&&◌}
-use mathlib.Core.List.{List, [], ◌∷◌, ◌++◌, append_assoc}
-use Prim.Native.Nat.{ℕ, zero, suc, ◌+◌, ◌-◌, ◌*◌, ◌/◌, ◌%◌, ◌^◌, ◌<◌, ◌≤◌}
-use native.Mathlib.Nat.{mod-lt, mod-eq_of_lt}
+use mathlib.Core.Path.{◌≡◌, sym, ap, ◌∙◌}
+use mathlib.Core.Bool.{true, ◌&&◌}
+use mathlib.Core.List.{List, [], ◌∷◌, ◌++◌}
+use Prim.Native.Nat.{ℕ, ◌+◌, ◌*◌, ◌/◌, ◌%◌, ◌^◌, ◌<◌, ◌≤◌}
+use native.Mathlib.Nat.{mod-lt}
 use native.Mathlib.Omega.{arith}
 use borrow.Author.Tests.{le-leb, leb-true, eq-eqb, eqb-true}
-use lib.Dec.{eqb, leb}
+use lib.Dec.{leb}
 use lib.ListN.{length, get_or, take, drop, length-append}
-use lib.Seq.{take_at, drop_at}
 use Rattle.bits.specs.Digits.{value, digits, Below}
 use Rattle.bits.specs.Bits.{ones}
-use Rattle.bits.specs.Answer.{Answer, accepted, refused}
-use Rattle.bits.proofs.Digits.{length_digits, below-digits, below-append, take-digits, drop-digits, digits_append, value-append, value-snoc, value-digits, digits_value}
+use Rattle.bits.specs.Answer.{accepted}
+use Rattle.bits.proofs.Digits.{length_digits, below-digits, below-append, take-digits, drop-digits, value-append, value-snoc, value-digits, digits_value}
 use Rattle.bits.proofs.Answer.{by-test}
 use Rattle.bits.proofs.Tests.{both_true}
 use Rattle.bits.proofs.Bits.{ones-append, ones-digits}

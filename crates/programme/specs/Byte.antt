@@ -7,7 +7,7 @@
 --     made t m o               the byte that begins with them, its last bit such that the number of ones is even
 --     read_byte, write_byte      what reading a byte answers, and writing one
 --     read_answer, write_answer  the number and the values that each case of the code's answer stands for
-use Rattle.std.specs.Prelude.{ℕ, ◌%◌, Bool, true, false, cond, ◌&&◌, List, [], ◌∷◌, ◌++◌, eqb, leb, take, drop}
+use Rattle.std.specs.Prelude.{ℕ, ◌%◌, Bool, cond, ◌&&◌, List, [], ◌∷◌, ◌++◌, eqb, leb, take, drop}
 use Rattle.bits.specs.Digits.{value, digits}
 use Rattle.bits.specs.Bits.{ones}
 use Rattle.bits.specs.Answer.{Answer, accepted, refused}

@@ -7,21 +7,21 @@ ghost use Rattle.programme.specs.Byte.{eight, read_byte, write_byte, read_answer
 ghost use Rattle.programme.specs.Names.{name_for};
 
 // What a byte reads as: number 0 and three numbers, or number 6.
-#[derive(Drop)]
+#[derive(Clone, Copy)]
 pub enum ByteRead {
     Programme { kind: u8, music: u8, mode: u8 },
     Odd,
 }
 
 // What is written: number 0 and a byte, or number 2.
-#[derive(Drop)]
+#[derive(Clone, Copy)]
 pub enum ByteWritten {
     Byte(u8),
     OutOfRange,
 }
 
 // Number 0 and eight letters, or number 2 and zeros.
-#[derive(Drop)]
+#[derive(Clone, Copy)]
 pub struct Name {
     pub number: u8,
     pub letters: [u8; 8],

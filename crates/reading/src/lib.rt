@@ -18,7 +18,7 @@ const COLUMNS: [u32; 63] = [
 ];
 
 // Places are counted from 0, the lowest first.
-#[derive(Drop)]
+#[derive(Clone, Copy)]
 pub enum Places {
     // The word is a code word.
     Zero,

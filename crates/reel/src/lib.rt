@@ -6,14 +6,14 @@ ghost use Rattle.reel.specs.Header.{number_at, good_header, header_of, header_an
 ghost use Rattle.reel.specs.Run.{run_of, run_answer, part_number, part_of};
 
 // The count of superframes and the offset of the first, or number 8.
-#[derive(Drop)]
+#[derive(Clone, Copy)]
 pub enum HeaderRead {
     Reel { count: u32, offset: u32 },
     NoHeader,
 }
 
 // How many superframes a run has, or number 1.
-#[derive(Drop)]
+#[derive(Clone, Copy)]
 pub enum RunCount {
     Superframes(usize),
     NoRun,

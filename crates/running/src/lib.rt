@@ -7,7 +7,7 @@ ghost use Rattle.running.specs.Running.{adds_up, sums_fit, given_in, running_in_
 
 use tape::Blocks;
 
-#[derive(Drop)]
+#[derive(Clone, Copy)]
 pub struct Running {
     // superframes taken
     pub taken: u32,
@@ -20,7 +20,7 @@ pub struct Running {
 }
 
 // Number 0 and the totals that follow; or 2 for totals out of range, 9 for a full history, and the totals as given.
-#[derive(Drop)]
+#[derive(Clone, Copy)]
 pub struct Step {
     pub number: u8,
     pub next: Running,

@@ -8,21 +8,21 @@ ghost use Rattle.std.specs.Int.Signed.{mag};
 ghost use Rattle.sample.specs.Sample.{is_code, code_answer, sample_answer, coded, sampled};
 ghost use Rattle.sample.specs.Factor.{all_fit, largest, factor_answer, chosen};
 
-#[derive(Drop)]
+#[derive(Clone, Copy)]
 pub enum Coded {
     Code(i16),
     // number 2
     Refused,
 }
 
-#[derive(Drop)]
+#[derive(Clone, Copy)]
 pub enum Sampled {
     Sample(i16),
     // number 2
     Refused,
 }
 
-#[derive(Drop)]
+#[derive(Clone, Copy)]
 pub enum Chosen {
     Factor(u8),
     // number 1

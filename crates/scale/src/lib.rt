@@ -6,7 +6,7 @@ ghost use Rattle.bits.specs.Digits.{value, digits};
 ghost use Rattle.scale.specs.Word.{scale_word, written_scale};
 
 // Number 0 and the 14 bits of a scale word, or number 2 and zeros.
-#[derive(Drop)]
+#[derive(Clone, Copy)]
 pub struct Written {
     pub number: u8,
     pub bits: [u8; 14],

@@ -8,7 +8,7 @@ ghost use Rattle.service.specs.Service.{searching_service, in_range, accepts, re
 mod taking;
 
 // Where the machine stands between two superframes. Places that carry nothing hold 0.
-#[derive(Drop)]
+#[derive(Clone, Copy)]
 pub struct Service {
     // the position that the next six bytes have, 1 to 8; 0: they belong to no open group
     pub position: u8,
@@ -21,7 +21,7 @@ pub struct Service {
 }
 
 // What one superframe's six bytes and sync give.
-#[derive(Drop)]
+#[derive(Clone, Copy)]
 pub struct Served {
     // 0; 2: refused; 7: the sync is neither of the two
     pub number: u8,

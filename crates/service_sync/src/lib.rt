@@ -6,7 +6,7 @@ ghost use Rattle.std.specs.Prelude.{◌≡◌};
 ghost use Rattle.service_sync.specs.Sync.{agree, kind_of, is_open, next_position, drops_with, number_of};
 
 // Which of the two syncs the 16 bits are.
-#[derive(Drop)]
+#[derive(Clone, Copy)]
 pub enum Kind {
     First,
     Second,

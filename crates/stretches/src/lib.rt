@@ -11,13 +11,13 @@ ghost use Rattle.stretches.specs.Step.{Step};
 use label::{Stretch, put_line};
 
 // The stretch that the next pair may still lengthen.
-#[derive(Drop)]
+#[derive(Clone, Copy)]
 pub enum Open {
     Nothing,
     Going(Stretch),
 }
 
-#[derive(Drop)]
+#[derive(Clone, Copy)]
 pub struct Stepped {
     pub last: Open,
     // the place behind the lines

@@ -5,7 +5,7 @@ ghost use Rattle.superframe.specs.State.{joined_state, fresh_state, service_of, 
 use running::Running;
 use service::Service;
 
-#[derive(Drop)]
+#[derive(Clone, Copy)]
 pub struct State {
     // the factors of the 32 channels for the next superframe, 0 to 7; 8: missing
     pub next: [u8; 32],
@@ -24,7 +24,7 @@ pub struct State {
 }
 
 // The answer to a lost superframe.
-#[derive(Drop)]
+#[derive(Clone, Copy)]
 pub struct Lost {
     // 0; 2: a state out of range; 9: a full history
     pub number: u8,
@@ -32,7 +32,7 @@ pub struct Lost {
 }
 
 // The answer to a reset.
-#[derive(Drop)]
+#[derive(Clone, Copy)]
 pub struct Reset {
     // 0; 2: refused
     pub number: u8,
@@ -40,7 +40,7 @@ pub struct Reset {
 }
 
 // The answer to six service bytes and the sync behind them.
-#[derive(Drop)]
+#[derive(Clone, Copy)]
 pub struct Serviced {
     // 0; 2: refused; 7: the sync is neither of the two
     pub number: u8,

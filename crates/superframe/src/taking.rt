@@ -9,7 +9,7 @@ use beside::Programmes;
 use tape::Blocks;
 
 // The answer to a superframe. Refused, all but the number and the state is 0.
-#[derive(Drop)]
+#[derive(Clone, Copy)]
 pub struct Taken {
     // 0; 1: a wrong length; 2: a state out of range, or another radius than 2 or 3; 9: a full history; 3: a wrong sync
     pub number: u8,

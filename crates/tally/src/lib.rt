@@ -6,7 +6,7 @@ ghost use Rattle.tally.specs.Totals.{grown, is_counted, sum_of, no_totals, added
 
 use tape::Counted;
 
-#[derive(Drop)]
+#[derive(Clone, Copy)]
 pub struct Totals {
     // whole superframes read, lost ones among them
     pub superframes: u64,
@@ -20,7 +20,7 @@ pub struct Totals {
 }
 
 // What one superframe more answers: number 0 with the totals after it, or the number of what is none with the totals as they were.
-#[derive(Drop)]
+#[derive(Clone, Copy)]
 pub struct Step {
     pub number: u8,
     pub next: Totals,

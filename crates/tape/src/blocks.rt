@@ -9,7 +9,7 @@ ghost use Rattle.tape.specs.Tape.{block_in, block_mark, quad_of, refused_quad, q
 use super::frames;
 
 // For each of the eight block positions, how many of its 64 blocks read so.
-#[derive(Drop)]
+#[derive(Clone, Copy)]
 pub struct Blocks {
     pub clean: [u8; 8],
     pub mended: [u8; 8],
@@ -17,7 +17,7 @@ pub struct Blocks {
 }
 
 // A block as read: number 0, its mark, and the codes of its four channels; or number 1 or 2 and zeros.
-#[derive(Drop)]
+#[derive(Clone, Copy)]
 pub struct Quad {
     pub number: u8,
     pub mark: u8,
@@ -25,7 +25,7 @@ pub struct Quad {
 }
 
 // Number 0, how many bits of the 128 syncs are wrong, and the readings counted; or number 1, 2 or 3 and zeros.
-#[derive(Drop)]
+#[derive(Clone, Copy)]
 pub struct Counted {
     pub number: u8,
     pub wrong: u16,

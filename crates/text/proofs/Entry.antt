@@ -13,7 +13,7 @@ use lib.Dec.{ltb}
 use lib.ListN.{length, take, drop}
 use Rattle.bits.proofs.Tests.{either_way}
 use Rattle.text.specs.Page.{Page, page, put_text}
-use Rattle.text.specs.Entry.{Entered, placed_within, entered, refused_text, entered_text}
+use Rattle.text.specs.Entry.{placed_within, entered, refused_text, entered_text}
 use Rattle.text.specs.declared.Placed.{Placed}
 use Rattle.text.proofs.Pages.{within-put, put-within, put-fits}
 

@@ -9,7 +9,7 @@ ghost use Rattle.text.specs.Digits.{blank, decimal, signed};
 
 // What an entry point that puts a text answers: 1 and the place as given where the text does not fit, and nothing is written then; else 0 and
 // the place behind the text.
-#[derive(Drop)]
+#[derive(Clone, Copy)]
 pub struct Placed {
     pub number: u8,
     pub end: usize,

@@ -10,7 +10,7 @@ use name_lines::put_head;
 use programme::ByteRead;
 use text::Placed;
 
-#[derive(Drop)]
+#[derive(Clone, Copy)]
 pub struct Types {
     // the byte noted last for each channel; 1, which has odd parity, where none was
     pub bytes: [u8; 32],
@@ -19,7 +19,7 @@ pub struct Types {
     pub superframe: u32,
 }
 
-#[derive(Drop)]
+#[derive(Clone, Copy)]
 pub struct Typed {
     pub placed: Placed,
     pub noted: Types,

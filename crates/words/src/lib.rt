@@ -11,14 +11,14 @@ ghost use Rattle.words.specs.Words.{word_of, turned_at, righted, lower_in, code_
 use reading::Places;
 
 // What is told of a block: its mark, 0 clean, 1 mended with one or two places turned, 4 with three, 2 bad, and the codes of its four channels.
-#[derive(Drop)]
+#[derive(Clone, Copy)]
 pub struct Told {
     pub mark: u8,
     pub codes: [i16; 4],
 }
 
 // A word with the places that were found turned, and its mark.
-#[derive(Drop)]
+#[derive(Clone, Copy)]
 struct Righted {
     mark: u8,
     word: u64,

@@ -7,7 +7,6 @@ use borrow.Author.Tests.{le-ltb, lt-ltb}
 use Rattle.bits.specs.Letters.{letters}
 use Rattle.programme.specs.Names.{name_for, names, padded}
 use Rattle.programme.proofs.Names.{name-at}
-use borrow.Author.Rules.{rules}
 use Rattle.programme.proofs.name_of.Goals as goal
 
 pub returns-then-kind-ge16 : goal.returns-then-kind-ge16

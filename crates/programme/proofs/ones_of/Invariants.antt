@@ -1,11 +1,8 @@
 -- `programme::ones_of` meets its contract: the ones counted, and those of the digits that are left. Assumes nothing.
-use mathlib.Core.Path.{◌≡◌, refl, sym, ap, ◌∙◌}
-use Prim.Native.Nat.{ℕ, ◌+◌, ◌-◌, ◌%◌, ◌/◌, ◌<◌, ◌≤◌}
-use native.Mathlib.Omega.{arith}
+use mathlib.Core.Path.{◌≡◌}
+use Prim.Native.Nat.{◌+◌, ◌-◌, ◌<◌, ◌≤◌}
 use Rattle.bits.specs.Digits.{digits}
 use Rattle.bits.specs.Bits.{ones}
-use Rattle.bits.proofs.Bits.{ones-digits}
-use borrow.Author.Rules.{rules}
 use Rattle.programme.proofs.ones_of.Given as goal
 
 abbrev pub invariant-loop-left : goal.invariant-loop-left

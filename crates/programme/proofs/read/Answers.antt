@@ -6,7 +6,6 @@ use borrow.Author.Tests.{eq-eqb, ne_eqb}
 use Rattle.bits.specs.Bits.{ones}
 use Rattle.programme.specs.Byte.{eight, read_byte, even}
 use Rattle.programme.proofs.Byte.{kind-is, music-is, mode-is}
-use borrow.Author.Rules.{rules}
 use Rattle.programme.proofs.read.Goals as goal
 
 pub returns-then-ones_of-ne0 : goal.returns-then-ones_of-ne0

@@ -7,7 +7,6 @@ use borrow.Author.Tests.{le-leb, lt-leb}
 use Rattle.bits.specs.Answer.{accepted}
 use Rattle.programme.specs.Byte.{write_byte}
 use Rattle.programme.proofs.Byte.{in-range, made-sum}
-use borrow.Author.Rules.{rules}
 use Rattle.programme.proofs.write.Goals as goal
 
 pub returns-then-kind-gt15 : goal.returns-then-kind-gt15

@@ -2,7 +2,6 @@
 use native.Mathlib.Omega.{arith}
 use borrow.Author.Tests.{lt-leb, le-leb, eq-eqb, ne_eqb}
 use Rattle.reel.specs.Header.{most_superframes, good_header}
-use borrow.Author.Rules.{rules}
 use Rattle.reel.proofs.is_header.Goals as goal
 
 pub returns-then-count-gt1000000 : goal.returns-then-count-gt1000000

@@ -1,6 +1,5 @@
 -- `reel::number_at` meets its contract: a number by its four bytes. Assumes nothing.
 use Rattle.reel.proofs.Header.{number_at-is}
-use borrow.Author.Rules.{rules}
 use Rattle.reel.proofs.number_at.Goals as goal
 
 pub returns : goal.returns

@@ -7,21 +7,7 @@ use borrow.Author.Tests.{lt-leb, le-leb}
 use lib.ListN.{length}
 use Rattle.bits.specs.Answer.{accepted}
 use Rattle.reel.specs.Header.{number_at, good_header, header_of}
-use borrow.Author.Rules.{rules}
 use Rattle.reel.proofs.read_header.Goals as goal
-
--- the test was made of the four numbers of the header
-tested : (c : tie.After-is-header) →
-    let bytes : List ℕ = c.before.before.before.before.before.before.before.args.bytes.now in
-    good_header (number_at bytes 0) (number_at bytes 4) (number_at bytes 8) (number_at bytes 12) ≡ c.is-header.result
-tested c =
-    rw (
-      ← c.before.before.before.before.number_at.ensures,
-      ← c.before.before.before.number-at2.ensures,
-      ← c.before.before.number-at3.ensures,
-      ← c.before.number-at4.ensures,
-    )
-    (sym c.is-header.ensures)
 
 pub returns-then-bytes-lt16 : goal.returns-then-bytes-lt16
 unfolding header_of
@@ -30,9 +16,17 @@ returns-then-bytes-lt16 c = rw (lt-leb 16 (length c.args.bytes.now) (omega arith
 pub returns-then-is_header : goal.returns-then-is_header
 unfolding header_of
 returns-then-is_header c =
+    let tested : let bytes : List ℕ = c.args.bytes.now in
+    good_header (number_at bytes 0) (number_at bytes 4) (number_at bytes 8) (number_at bytes 12) ≡ c.is_header.result = rw (
+      ← c.number_at-count.ensures,
+      ← c.number_at-offset.ensures,
+      ← c.number_at-summary.ensures,
+      ← c.number_at-entries.ensures,
+    )
+    (sym c.is_header.ensures) in
     rw (
       le-leb 16 (length c.args.bytes.now) (omega arith),
-      tested c,
+      tested,
       c.if-is_header.true,
     )
     (ap₂ (λ (count offset : ℕ). accepted (count ∷ offset ∷ []))
@@ -41,8 +35,16 @@ returns-then-is_header c =
 pub returns : goal.returns
 unfolding header_of
 returns c =
+    let tested : let bytes : List ℕ = c.args.bytes.now in
+    good_header (number_at bytes 0) (number_at bytes 4) (number_at bytes 8) (number_at bytes 12) ≡ c.is_header.result = rw (
+      ← c.number_at-count.ensures,
+      ← c.number_at-offset.ensures,
+      ← c.number_at-summary.ensures,
+      ← c.number_at-entries.ensures,
+    )
+    (sym c.is_header.ensures) in
     rw (
       le-leb 16 (length c.args.bytes.now) (omega arith),
-      tested c,
+      tested,
       c.if-is_header.false,
     )

@@ -5,7 +5,6 @@ use borrow.Author.Tests.{lt-leb, le-leb, eq-eqb, ne_eqb}
 use lib.ListN.{length}
 use Rattle.reel.specs.Header.{most_superframes}
 use Rattle.reel.specs.Run.{superframe_bytes, is_run, run_of}
-use borrow.Author.Rules.{rules}
 use Rattle.reel.proofs.run_count.Goals as goal
 
 pub returns-then-n-ne0 : goal.returns-then-n-ne0

@@ -9,14 +9,6 @@ use Rattle.reel.proofs.Run.{run-lengths, part-there}
 use borrow.Author.Rules.{rules}
 use Rattle.reel.proofs.superframe_of.Goals as goal
 
--- where the number is 0, superframe k lies within the run
-inside : (c : tie.Else1) → (1 ≤ c.before.before.before.args.k) × (c.before.before.before.args.k * superframe_bytes ≤ length c.before.before.before.args.run.now)
-inside c =
-    let a = c.before.before.before.args in
-    let there = part-there a.run.now a.k (sym c.before.superframe-number-of.ensures ∙ c.if1.false) in
-    let size = run-lengths a.run.now there.0 in
-    (there.1, omega arith)
-
 pub returns-then-superframe_number_of-ne0 : goal.returns-then-superframe_number_of-ne0
 unfolding part_of
 returns-then-superframe_number_of-ne0 c =
@@ -24,13 +16,32 @@ returns-then-superframe_number_of-ne0 c =
     rw (ne_eqb (part_number a.run.now a.k) 0 (rw c.superframe_number_of.ensures at c.if-superframe_number_of-ne0.true))
 
 pub overflow_sub-start : goal.overflow_sub-start
-overflow_sub-start c = let i = inside c in search rules
+overflow_sub-start c =
+    let inside : (1 ≤ c.args.k) × (c.args.k * superframe_bytes ≤ length c.args.run.now) = let a = c.args in
+    let there = part-there a.run.now a.k (sym c.superframe_number_of.ensures ∙ c.if-superframe_number_of-ne0.false) in
+    let size = run-lengths a.run.now there.0 in
+    (there.1, omega arith) in let i = inside in search rules
 
 pub overflow_mul-start : goal.overflow_mul-start
-overflow_mul-start c = let i = inside c in search rules
+overflow_mul-start c =
+    let inside : (1 ≤ c.args.k) × (c.args.k * superframe_bytes ≤ length c.args.run.now) = let a = c.args in
+    let there = part-there a.run.now a.k (sym c.superframe_number_of.ensures ∙ c.if-superframe_number_of-ne0.false) in
+    let size = run-lengths a.run.now there.0 in
+    (there.1, omega arith) in let i = inside in search rules
 
 pub overflow_add-end : goal.overflow_add-end
-overflow_add-end c = let i = inside c in search rules
+overflow_add-end c =
+    let inside : (1 ≤ c.args.k) × (c.args.k * superframe_bytes ≤ length c.args.run.now) = let a = c.args in
+    let there = part-there a.run.now a.k (sym c.superframe_number_of.ensures ∙ c.if-superframe_number_of-ne0.false) in
+    let size = run-lengths a.run.now there.0 in
+    (there.1, omega arith) in let i = inside in search rules
+
+pub slice_bounds-result-end-2 : goal.slice_bounds-result-end-2
+slice_bounds-result-end-2 c =
+    let inside : (1 ≤ c.args.k) × (c.args.k * superframe_bytes ≤ length c.args.run.now) = let a = c.args in
+    let there = part-there a.run.now a.k (sym c.superframe_number_of.ensures ∙ c.if-superframe_number_of-ne0.false) in
+    let size = run-lengths a.run.now there.0 in
+    (there.1, omega arith) in let i = inside in search rules
 
 pub returns : goal.returns
 unfolding part_of superframe

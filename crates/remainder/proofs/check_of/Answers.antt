@@ -1,12 +1,12 @@
 -- `remainder::check_of` meets its contract. The loop's invariant: the word's remainder is divided on, with a zero for each turn. Assumes nothing.
 use mathlib.Core.Path.{◌≡◌, refl, ap, ◌∙◌}
-use Prim.Native.Nat.{◌-◌, ◌^◌, ◌<◌, ◌≤◌}
-use lib.ListN.{length, take, get_or, get_or-replicate}
+use Prim.Native.Nat.{◌<◌}
+use lib.ListN.{length, get_or, get_or-replicate}
 use borrow.Author.Rules.{rules}
 use borrow.Author.Tests.{le-leb, lt-leb}
-use Rattle.bits.specs.Digits.{value, digits}
+use Rattle.bits.specs.Digits.{value}
 use Rattle.remainder.specs.Polynomial.{zeros}
-use Rattle.remainder.specs.Remainder.{divide, remainder, check_number}
+use Rattle.remainder.specs.Remainder.{divide, check_number}
 use Rattle.remainder.proofs.Sum.{length-zeros}
 use Rattle.remainder.proofs.Register.{turn, ended, resumed, behind, small-remainder, remainder-number}
 use Rattle.remainder.proofs.check_of.Goals as goal

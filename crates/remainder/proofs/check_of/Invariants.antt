@@ -1,14 +1,10 @@
 -- `remainder::check_of` meets its contract. The loop's invariant: the word's remainder is divided on, with a zero for each turn. Assumes nothing.
-use mathlib.Core.Path.{◌≡◌, refl, ap, ◌∙◌}
+use mathlib.Core.Path.{◌≡◌}
 use Prim.Native.Nat.{◌-◌, ◌^◌, ◌<◌, ◌≤◌}
-use lib.ListN.{length, take, get_or, get_or-replicate}
-use borrow.Author.Rules.{rules}
-use borrow.Author.Tests.{le-leb, lt-leb}
-use Rattle.bits.specs.Digits.{value, digits}
+use lib.ListN.{take}
+use Rattle.bits.specs.Digits.{digits}
 use Rattle.remainder.specs.Polynomial.{zeros}
-use Rattle.remainder.specs.Remainder.{divide, remainder, check_number}
-use Rattle.remainder.proofs.Sum.{length-zeros}
-use Rattle.remainder.proofs.Register.{turn, ended, resumed, behind, small-remainder, remainder-number}
+use Rattle.remainder.specs.Remainder.{divide, remainder}
 use Rattle.remainder.proofs.check_of.Given as goal
 
 abbrev pub invariant-loop-i : goal.invariant-loop-i

@@ -7,7 +7,6 @@ use lib.Pow.{pow_pos, pow_mono}
 use lib.Bits.{bit_xor}
 use Rattle.bits.specs.Digits.{digits}
 use Rattle.remainder.proofs.Register.{step-digits, step-odd, top, size}
-use borrow.Author.Rules.{rules}
 use Rattle.remainder.proofs.next.Goals as goal
 
 pub overflow_mul-w : goal.overflow_mul-w

@@ -1,12 +1,11 @@
 -- `remainder::remainder_of` meets its contract. The loop's invariant: the register's digits are the division so far. Assumes nothing.
-use mathlib.Core.Path.{◌≡◌, ap, ◌∙◌}
-use Prim.Native.Nat.{◌-◌, ◌^◌, ◌<◌, ◌≤◌}
+use mathlib.Core.Path.{ap, ◌∙◌}
+use Prim.Native.Nat.{◌<◌}
 use lib.Pow.{pow_pos}
-use lib.ListN.{length, take}
+use lib.ListN.{length}
 use borrow.Author.Rules.{rules}
 use borrow.Author.Tests.{le-leb, lt-leb}
-use Rattle.bits.specs.Digits.{value, digits}
-use Rattle.remainder.specs.Polynomial.{zeros}
+use Rattle.bits.specs.Digits.{value}
 use Rattle.remainder.specs.Remainder.{divide, remainder_number}
 use Rattle.bits.proofs.Digits.{digits-zero}
 use Rattle.remainder.proofs.Register.{turn, ended, whole}

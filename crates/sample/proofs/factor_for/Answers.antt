@@ -1,18 +1,14 @@
 -- `sample::factor_for` meets its contract: the search goes down from 7, and passes only factors that the reach does not fit. Assumes nothing.
 use mathlib.Core.Path.{◌≡◌, refl, sym, ◌∙◌}
-use mathlib.Core.Bool.{Bool}
-use Prim.Native.Nat.{ℕ, ◌-◌, ◌/◌, ◌^◌, ◌<◌, ◌≤◌}
+use Prim.Native.Nat.{◌-◌, ◌/◌, ◌^◌, ◌<◌, ◌≤◌}
 use native.Mathlib.Omega.{arith}
-use lib.Dec.{ltb}
 use borrow.Author.Rules.{rules}
 use borrow.Author.Tests.{lt-ltb, le-ltb}
 use Rattle.sample.specs.Factor.{largest}
 use Rattle.sample.proofs.Sample.{half_over}
 use Rattle.sample.proofs.Factor.{largest-hit, largest-miss}
 use Rattle.sample.proofs.factor_for.Goals as goal
-
-abbrev fitting : ℕ → ℕ → Bool
-fitting most s = ltb most (2 ^ (15 - s))
+use Rattle.sample.proofs.factor_for.Invariants.{fitting}
 
 pub loop-s-init : goal.loop-s-init
 loop-s-init c = (search rules, refl)

@@ -1,11 +1,10 @@
 -- `sample::farthest` meets its contract: the samples so far fit a factor exactly where the farthest of their reaches does. Assumes nothing.
 use mathlib.Core.Path.{◌≡◌, sym, ap, ap₂, ◌∙◌}
-use mathlib.Core.Logic.{⊎_elim}
 use mathlib.Core.Bool.{Bool, ◌&&◌, and_comm}
 use Prim.Native.Nat.{ℕ, ◌-◌, ◌^◌, ◌<◌, ◌≤◌}
 use native.Mathlib.Omega.{arith}
 use lib.Dec.{ltb}
-use lib.ListN.{length, get_or, take}
+use lib.ListN.{length, get_or}
 use lib.Pow.{pow_pos}
 use lib.Seq.{take_all}
 use lib.IntN.{pos}
@@ -21,6 +20,7 @@ use Rattle.sample.proofs.Sample.{fits-mag}
 use Rattle.bits.proofs.Every.{every_take}
 use Rattle.sample.proofs.Factor.{test-max}
 use Rattle.sample.proofs.farthest.Goals as goal
+use Rattle.sample.proofs.farthest.Goals.{then-most-far, else-most-far}
 
 pub loop-i-init : goal.loop-i-init
 unfolding every
@@ -35,10 +35,10 @@ loop-i-preserved c =
     let reached : c.reach-far.result ≡ mag x = c.reach-far.ensures ∙ ap mag (to_z-of_z w16 x (record { sfits = room })) in
     let larger : (h : ℕ) → (ltb l.most h && ltb (mag x) h) ≡ ltb c.if-most-far.most h =
     λ h.
-    ⊎_elim
-    (λ w. test-max l.most (mag x) h (omega (arith, w.0.taken)) ∙ ap (λ (m : ℕ). ltb m h) (sym reached ∙ sym w.1))
-    (λ w. and_comm (ltb l.most h) (ltb (mag x) h) ∙ test-max (mag x) l.most h (omega (arith, w.0.left)) ∙ ap (λ (m : ℕ). ltb m h) (sym w.1))
-    c.if-most-far.branch in
+    elim c.if-most-far.branch [
+      | then-most-far w ↦ test-max l.most (mag x) h (omega (arith, w.if-most-far.true)) ∙ ap (λ (m : ℕ). ltb m h) (sym reached ∙ sym w.most-is)
+      | else-most-far w ↦ and_comm (ltb l.most h) (ltb (mag x) h) ∙ test-max (mag x) l.most h (omega (arith, w.if-most-far.false)) ∙ ap (λ (m : ℕ). ltb m h) (sym w.most-is)
+    ] in
     (search rules, λ s. every_take (fits s) xs l.i (pos 0) (omega arith) ∙ ap₂ (λ (a b : Bool). a && b) (l.invariant.1 s) (fits-mag s x) ∙ larger (2 ^ (15 - s)))
 
 pub returns : goal.returns

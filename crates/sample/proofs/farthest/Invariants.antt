@@ -1,25 +1,9 @@
 -- `sample::farthest` meets its contract: the samples so far fit a factor exactly where the farthest of their reaches does. Assumes nothing.
-use mathlib.Core.Path.{◌≡◌, sym, ap, ap₂, ◌∙◌}
-use mathlib.Core.Logic.{⊎_elim}
-use mathlib.Core.Bool.{Bool, ◌&&◌, and_comm}
-use Prim.Native.Nat.{ℕ, ◌-◌, ◌^◌, ◌<◌, ◌≤◌}
-use native.Mathlib.Omega.{arith}
+use mathlib.Core.Path.{◌≡◌}
+use Prim.Native.Nat.{ℕ, ◌-◌, ◌^◌, ◌≤◌}
 use lib.Dec.{ltb}
-use lib.ListN.{length, get_or, take}
-use lib.Pow.{pow_pos}
-use lib.Seq.{take_all}
-use lib.IntN.{pos}
-use lib.Signed.{mag}
-use mir.Syntax.{w16}
-use mir.ValLaws.{to_z-of_z}
-use borrow.Author.Rules.{rules}
-use borrow.Author.Tests.{lt-ltb}
-use Rattle.bits.specs.Table.{every}
-use Rattle.sample.specs.Sample.{fits}
+use lib.ListN.{length, take}
 use Rattle.sample.specs.Factor.{all_fit}
-use Rattle.sample.proofs.Sample.{fits-mag}
-use Rattle.bits.proofs.Every.{every_take}
-use Rattle.sample.proofs.Factor.{test-max}
 use Rattle.sample.proofs.farthest.Given as goal
 
 abbrev pub invariant-loop-i : goal.invariant-loop-i

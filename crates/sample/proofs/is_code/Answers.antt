@@ -3,7 +3,6 @@ use mathlib.Core.Path.{sym}
 use mir.Syntax.{w16}
 use mir.ValLaws.{to_z-of_z}
 use Rattle.sample.proofs.Sample.{code-mag}
-use borrow.Author.Rules.{rules}
 use Rattle.sample.proofs.is_code.Goals as goal
 
 pub returns : goal.returns

@@ -1,5 +1,4 @@
 -- `service_group::channel_byte` meets its contract. Assumes nothing.
-use borrow.Author.Rules.{rules}
 use Rattle.service_group.specs.Six.{channel_byte}
 use Rattle.service_group.proofs.channel_byte.Goals as goal
 

@@ -1,13 +1,9 @@
 -- `service_group::gather` meets its contract: the bytes so far are the first of the table. Assumes nothing.
-use mathlib.Core.Path.{◌≡◌, refl}
+use mathlib.Core.Path.{◌≡◌}
 use Prim.Native.Nat.{◌-◌, ◌≤◌}
-use native.Mathlib.Omega.{arith}
-use mathlib.Core.List.{[]}
-use lib.ListN.{length, take, length-set}
+use lib.ListN.{length, take}
 use Rattle.bits.specs.Table.{tabulate}
-use Rattle.bits.proofs.Table.{tab-more, tab-none, tab-done}
-use Rattle.service_group.specs.Six.{channel_byte, group_after}
-use borrow.Author.Rules.{rules}
+use Rattle.service_group.specs.Six.{channel_byte}
 use Rattle.service_group.proofs.gather.Given as goal
 
 abbrev pub invariant-loop-i : goal.invariant-loop-i

@@ -1,5 +1,4 @@
 -- `service_group::label_byte` meets its contract. Assumes nothing.
-use borrow.Author.Rules.{rules}
 use Rattle.service_group.specs.Six.{label_byte}
 use Rattle.service_group.proofs.label_byte.Goals as goal
 

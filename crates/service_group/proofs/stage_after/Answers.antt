@@ -2,7 +2,6 @@
 use mathlib.Core.Path.{sym, ◌∙◌}
 use borrow.Author.Tests.{lt-ltb, le-ltb, eq-eqb, ne_eqb}
 use Rattle.service_group.specs.Six.{stage_after}
-use borrow.Author.Rules.{rules}
 use Rattle.service_group.proofs.stage_after.Goals as goal
 
 pub returns-then-position-ne8 : goal.returns-then-position-ne8

@@ -1,12 +1,9 @@
 -- `service_group::write_labels` meets its contract: the characters so far are the first of the table. Assumes nothing.
-use mathlib.Core.Path.{◌≡◌, refl}
-use Prim.Native.Nat.{◌-◌, ◌≤◌}
+use mathlib.Core.Path.{refl}
 use native.Mathlib.Omega.{arith}
 use mathlib.Core.List.{[]}
-use lib.ListN.{length, take, length-set}
-use Rattle.bits.specs.Table.{tabulate}
+use lib.ListN.{length-set}
 use Rattle.bits.proofs.Table.{tab-more, tab-none, tab-done}
-use Rattle.service_group.specs.Six.{label_byte}
 use borrow.Author.Rules.{rules}
 use Rattle.service_group.proofs.write_labels.Goals as goal
 

@@ -1,11 +1,10 @@
 -- `service_sync::drops` meets its contract: one case for each kind of sync. Assumes nothing.
 use mathlib.Core.Path.{ap}
 use mathlib.Core.Bool.{not}
-use borrow.Author.Rules.{rules}
 use Rattle.service_sync.proofs.drops.Goals as goal
 
 pub returns-in-First : goal.returns-in-First
-returns-in-First c = rw c.enum_told-1.given.1 c.is_open.ensures
+returns-in-First c = rw c.in-First.is c.is_open.ensures
 
 pub returns-in-Second : goal.returns-in-Second
-returns-in-Second c = rw c.enum_told-in-Second-1.given.1 (ap not c.is_open-in-Second.ensures)
+returns-in-Second c = rw c.in-Second.is (ap not c.is_open-in-Second.ensures)

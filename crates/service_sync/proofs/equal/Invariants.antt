@@ -1,11 +1,8 @@
 -- `service_sync::equal` meets its contract: what the bits left say is what all of them say. Assumes nothing.
-use mathlib.Core.Path.{◌≡◌, refl, sym, ◌∙◌}
+use mathlib.Core.Path.{◌≡◌}
 use Prim.Native.Nat.{◌-◌, ◌≤◌}
-use native.Mathlib.Omega.{arith}
 use lib.ListN.{drop}
 use Rattle.service_sync.specs.Sync.{agree}
-use Rattle.service_sync.proofs.Syncs.{agree-more, agree-stop, agree-end}
-use borrow.Author.Rules.{rules}
 use Rattle.service_sync.proofs.equal.Given as goal
 
 abbrev pub invariant-loop-i : goal.invariant-loop-i

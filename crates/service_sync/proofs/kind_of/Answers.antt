@@ -2,7 +2,6 @@
 use mathlib.Core.Path.{◌≡◌, sym, ◌∙◌}
 use mathlib.Core.Bool.{true}
 use Rattle.service_sync.specs.Sync.{agree, sync1, kind_of}
-use borrow.Author.Rules.{rules}
 use Rattle.service_sync.proofs.kind_of.Goals as goal
 
 pub returns-then-equal : goal.returns-then-equal

@@ -8,13 +8,13 @@ pub overflow_add-result : goal.overflow_add-result
 overflow_add-result c = let l = open-below _ (sym c.is_open.ensures ∙ c.if-is_open.true) in search rules
 
 pub returns-in-First : goal.returns-in-First
-returns-in-First c = rw c.enum_told-1.given.1 refl
+returns-in-First c = rw c.in-First.is refl
 
 pub returns-then-is_open : goal.returns-then-is_open
-returns-then-is_open c = rw (c.enum_told-in-Second-1.given.1, sym c.is_open.ensures ∙ c.if-is_open.true)
+returns-then-is_open c = rw (c.in-Second.is, sym c.is_open.ensures ∙ c.if-is_open.true)
 
 pub returns-else-is_open : goal.returns-else-is_open
-returns-else-is_open c = rw (c.enum_told-in-Second-1.given.1, sym c.is_open.ensures ∙ c.if-is_open.false)
+returns-else-is_open c = rw (c.in-Second.is, sym c.is_open.ensures ∙ c.if-is_open.false)
 
 pub returns-in-Neither : goal.returns-in-Neither
-returns-in-Neither c = rw c.enum_told-in-Neither-1.given.1 refl
+returns-in-Neither c = rw c.in-Neither.is refl

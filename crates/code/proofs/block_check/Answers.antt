@@ -1,0 +1,15 @@
+-- `code::block_check` meets its contract: the division by the block's own table. Assumes nothing.
+use mathlib.Core.Path.{ap, ◌∙◌}
+use mathlib.Core.List.{List}
+use Prim.Native.Nat.{ℕ}
+use borrow.Author.Rules.{rules}
+use Rattle.eights.specs.Eights.{check_by}
+use Rattle.eights.proofs.Whole.{check-remainder}
+use Rattle.code.specs.Generators.{block_generator}
+use Rattle.code.proofs.Smallest.{block_size}
+use Rattle.code.proofs.block_check.Goals as goal
+
+pub returns : goal.returns
+returns c =
+    let bits = c.args.bits.now in
+    c.check_of.ensures ∙ ap (λ (t : List ℕ). check_by t bits) c.remainders-table.ensures ∙ check-remainder block_generator block_size bits

@@ -1,0 +1,8 @@
+-- `eights::next` meets its contract. Assumes nothing.
+use borrow.Author.Rules.{rules}
+use Rattle.eights.specs.Eights.{step_by}
+use Rattle.eights.proofs.next.Goals as goal
+
+pub returns : goal.returns
+unfolding step_by
+returns c = rw c.wide.ensures.0

@@ -1,0 +1,21 @@
+-- `frame::sync_errors` meets its contract: the wrong bits counted so far. Assumes nothing.
+use mathlib.Core.Path.{◌≡◌, refl, sym, ◌∙◌}
+use Prim.Native.Nat.{ℕ, ◌+◌, ◌-◌, ◌%◌, ◌<◌, ◌≤◌}
+use native.Mathlib.Omega.{arith}
+use lib.ListN.{get_or}
+use Rattle.bits.specs.Table.{tabulate}
+use Rattle.bits.specs.Bits.{bit_at, ones}
+use Rattle.bits.proofs.Bits.{bit_at-below, bit_below}
+use Rattle.bits.proofs.Ones.{ones-more}
+use Rattle.frame.specs.Read.{wrong_sync}
+use Rattle.frame.proofs.Sync.{below-sync, wrong-counted}
+use Rattle.code.specs.Words.{distance}
+use Rattle.frame.specs.Frame.{sync_word}
+use borrow.Author.Rules.{rules}
+use Rattle.frame.proofs.sync_errors.Given as goal
+
+abbrev pub invariant-loop-k : goal.invariant-loop-k
+invariant-loop-k l = (l.k ≤ 11) × (l.wrong ≤ l.k) × (l.wrong ≡ ones (tabulate l.k (λ k. (get_or l.sync k 0 + bit_at l.bytes k) % 2)))
+
+abbrev pub decreases-loop-k : goal.decreases-loop-k
+decreases-loop-k l = 11 - l.k

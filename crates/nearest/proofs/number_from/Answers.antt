@@ -1,0 +1,43 @@
+-- `nearest::number_from` meets its contract: the sum is the number that the bits so far make. Assumes nothing.
+use mathlib.Core.Path.{◌≡◌, refl, sym, ap, ap₂, ◌∙◌}
+use Prim.Native.Nat.{ℕ, ◌+◌, ◌-◌, ◌*◌, ◌%◌, ◌^◌, ◌<◌, ◌≤◌}
+use native.Mathlib.Nat.{lt_of_lt_of_le}
+use native.Mathlib.Omega.{arith}
+use lib.ListN.{get_or}
+use lib.Pow.{pow_mono}
+use Rattle.bits.specs.Table.{tabulate}
+use Rattle.bits.specs.Digits.{value}
+use Rattle.nearest.specs.Search.{bits_from}
+use Rattle.nearest.proofs.Numbers.{number_small, number_more}
+use borrow.Author.Rules.{rules}
+use Rattle.nearest.proofs.number_from.Goals as goal
+
+pub loop-j-init : goal.loop-j-init
+unfolding value tabulate bits_from
+loop-j-init c = (search rules, refl)
+
+pub overflow_mul-sum : goal.overflow_mul-sum
+overflow_mul-sum c =
+    let room : c.loop-j.sum < 2 ^ 42 = let given = c.args in
+    let most = c.requires.1 in
+    let few : c.loop-j.j ≤ 42 = omega (arith, c.loop-j.invariant.0) in
+    rw c.loop-j.invariant.1 (lt_of_lt_of_le (number_small given.bits.now given.at c.loop-j.j) (pow_mono few)) in let h = room in search rules
+
+pub overflow_add-sum : goal.overflow_add-sum
+overflow_add-sum c =
+    let room : c.loop-j.sum < 2 ^ 42 = let given = c.args in
+    let most = c.requires.1 in
+    let few : c.loop-j.j ≤ 42 = omega (arith, c.loop-j.invariant.0) in
+    rw c.loop-j.invariant.1 (lt_of_lt_of_le (number_small given.bits.now given.at c.loop-j.j) (pow_mono few)) in let h = room in search rules
+
+pub loop-j-preserved : goal.loop-j-preserved
+loop-j-preserved c =
+    let l = c.loop-j in
+    let given = c.args in
+    let bit : c.byte_of.result % 2 ≡ get_or given.bits.now (given.at + l.j) 0 % 2 = ap (λ (x : ℕ). x % 2) c.byte_of.ensures in
+    (search rules, ap₂ (λ (x y : ℕ). x * 2 + y) l.invariant.1 bit ∙ sym (number_more given.bits.now given.at l.j))
+
+pub returns : goal.returns
+returns c =
+    let end : c.loop-j.j ≡ c.args.n = omega (arith, c.loop-j.invariant.0) in
+    rw end at c.loop-j.invariant.1

@@ -1,0 +1,9 @@
+-- `service::taking::take_sync` meets its contract: what it calls ensures, put together. Assumes nothing.
+use Rattle.service.specs.Taking.{take_sync}
+use borrow.Author.Rules.{rules}
+use Rattle.service.proofs.taking.take_sync.Goals as goal
+
+pub returns : goal.returns
+unfolding take_sync
+returns c =
+    rw (c.labels_if-labels.ensures, c.stage_unless-stage.ensures, c.drops.ensures, c.group_if-group.ensures, c.next_position-next.ensures)
