@@ -1,0 +1,11 @@
+-- `label::seconds::put_eight` meets its contract. Assumes nothing.
+use mathlib.Core.Path.{sym, ap, ◌∙◌}
+use Rattle.text.specs.Page.{put_text}
+use Rattle.text.proofs.Pages.{put_then}
+use Rattle.label.proofs.Times.{padded-append}
+use borrow.Author.Rules.{rules}
+use Rattle.label.proofs.seconds.put_eight.Goals as goal
+
+pub returns : goal.returns
+returns c =
+    put_then _ _ _ _ _ c.put_four-high.ensures c.put_four.ensures ∙ ap (put_text _) (sym (padded-append 4 4 c.args.x))

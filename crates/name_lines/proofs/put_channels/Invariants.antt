@@ -1,0 +1,18 @@
+-- `name_lines::put_channels` meets its contract. Assumes nothing.
+use Prim.Native.Nat.{ℕ, ◌-◌, ◌≤◌}
+use mathlib.Core.Path.{◌≡◌, refl, ap, ◌∙◌}
+use native.Mathlib.Omega.{arith}
+use lib.ListN.{length}
+use Rattle.text.specs.Page.{page, put_text}
+use Rattle.text_rows.specs.Turns.{in_turn}
+use Rattle.text_rows.proofs.Turns.{turn_more}
+use Rattle.name_lines.specs.Names.{channel_line}
+use borrow.Author.Rules.{rules}
+use Rattle.name_lines.proofs.put_channels.Given as goal
+
+abbrev pub invariant-loop-c : goal.invariant-loop-c
+invariant-loop-c l =
+    (l.c ≤ 32) × (length l.out ≡ length l.initial.out) × (page l.out l.end ≡ put_text (page l.initial.out l.to) (in_turn l.c (channel_line l.k l.known l.old l.new)))
+
+abbrev pub decreases-loop-c : goal.decreases-loop-c
+decreases-loop-c l = 32 - l.c
