@@ -1,4 +1,4 @@
-//! The proved reader: `outside_take` of crates/outside, which takes a superframe as `State::take` does.
+//! The proved reader: `outside_take` of crates/outside_c, which takes a superframe as `State::take` does.
 
 use crate::{Beside, Lists, BYTES};
 
