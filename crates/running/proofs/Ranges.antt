@@ -16,7 +16,7 @@ use Rattle.bits.proofs.Every.{every-tab}
 use Rattle.tape.specs.declared.blocks.Blocks.{Blocks}
 use Rattle.running.specs.Running.{adds_up, programme_fits, sums_fit, given_in, most_given, running_in_range, has_room, no_running, with_taken, with_lost}
 use Rattle.running.specs.declared.Running.{Running}
-use Rattle.running.proofs.Sums.{sum_is, few}
+use Rattle.running.proofs.Sums.{sum_is}
 use Rattle.running.proofs.More.{room}
 use Rattle.running.proofs.Adds.{added-there}
 

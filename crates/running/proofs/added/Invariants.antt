@@ -1,13 +1,9 @@
 -- `running::added` meets its contract. Assumes nothing.
-use mathlib.Core.Path.{◌≡◌, refl, ap}
+use mathlib.Core.Path.{◌≡◌}
 use mathlib.Core.List.{List}
 use Prim.Native.Nat.{ℕ, ◌+◌, ◌-◌, ◌/◌, ◌≤◌}
-use native.Mathlib.Omega.{arith}
 use lib.ListN.{length, get_or, take}
 use Rattle.bits.specs.Table.{tabulate}
-use Rattle.bits.proofs.Table.{tab-more, tab-done}
-use Rattle.running.specs.Running.{added_to}
-use borrow.Author.Rules.{rules}
 use Rattle.running.proofs.added.Given as goal
 
 abbrev pub one : List ℕ → List ℕ → ℕ → ℕ

@@ -1,10 +1,8 @@
 -- `running::sums_fit` meets its contract. Assumes nothing.
 use mathlib.Core.Path.{refl, sym, ◌∙◌}
-use Prim.Native.Nat.{◌-◌, ◌≤◌}
 use native.Mathlib.Omega.{arith}
-use borrow.Author.Tests.{not-true, not-false}
 use Rattle.bits.specs.Table.{every}
-use Rattle.running.proofs.Sums.{passed, fits_more, fits_not, fits_all}
+use Rattle.running.proofs.Sums.{fits_more, fits_not, fits_all}
 use borrow.Author.Rules.{rules}
 use Rattle.running.proofs.sums_fit.Goals as goal
 

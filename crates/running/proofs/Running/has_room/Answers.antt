@@ -1,6 +1,5 @@
 -- `running::Running::has_room` meets its contract. Assumes nothing.
 use Rattle.running.specs.Running.{has_room}
-use borrow.Author.Rules.{rules}
 use Rattle.running.proofs.Running.has_room.Goals as goal
 
 pub returns : goal.returns

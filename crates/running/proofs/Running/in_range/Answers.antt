@@ -1,7 +1,6 @@
 -- `running::Running::in_range` meets its contract. Assumes nothing.
 use mathlib.Core.Path.{sym, ◌∙◌}
 use Rattle.running.specs.Running.{running_in_range}
-use borrow.Author.Rules.{rules}
 use Rattle.running.proofs.Running.in_range.Goals as goal
 
 pub returns-then-sums_fit : goal.returns-then-sums_fit

@@ -3,13 +3,12 @@ use mathlib.Core.Path.{◌≡◌, sym, ◌∙◌}
 use native.Mathlib.Omega.{arith}
 use Rattle.running.specs.Running.{with_lost, step_number, lost_step}
 use Rattle.running.proofs.More.{free, room, goes_on, stays}
-use borrow.Author.Rules.{rules}
 use Rattle.running.proofs.Running.lose.Goals as goal
 
 pub returns-then-number-ne0 : goal.returns-then-number-ne0
 unfolding lost_step
 returns-then-number-ne0 c =
-    rw (stays c.before.before.args.self _ (λ e. c.if-number-ne0.true (c.before.number.ensures ∙ e)), ← c.before.number.ensures)
+    rw (stays c.args.self _ (λ e. c.if-number-ne0.true (c.number-number.ensures ∙ e)), ← c.number-number.ensures)
 
 pub overflow_add-next : goal.overflow_add-next
 overflow_add-next c =

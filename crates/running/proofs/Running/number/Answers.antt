@@ -1,8 +1,6 @@
 -- `running::Running::number` meets its contract. Assumes nothing.
 use mathlib.Core.Path.{sym, ◌∙◌}
-use borrow.Author.Tests.{not-true, not-false}
 use Rattle.running.specs.Running.{step_number}
-use borrow.Author.Rules.{rules}
 use Rattle.running.proofs.Running.number.Goals as goal
 
 pub returns-then-not-in_range : goal.returns-then-not-in_range

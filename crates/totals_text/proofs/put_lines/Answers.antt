@@ -1,0 +1,25 @@
+-- `totals_text::put_lines` meets its contract. Assumes nothing.
+use mathlib.Core.Path.{sym, ap, ◌∙◌}
+use Rattle.text.specs.Page.{page, put_text}
+use Rattle.reel.specs.Header.{header_answer}
+use Rattle.reel.specs.declared.HeaderRead.{HeaderRead}
+use Rattle.bits.specs.Letters.{letters}
+use Rattle.totals_text.specs.Totals.{totals_text}
+use borrow.Author.Rules.{rules}
+use Rattle.totals_text.proofs.put_lines.Goals as goal
+
+pub returns-in-NoHeader : goal.returns-in-NoHeader
+unfolding totals_text letters
+returns-in-NoHeader c =
+    let start = c.args in
+    c.put_line.ensures
+    ∙ ap (λ (h : HeaderRead). put_text (page start.out.now start.to) (totals_text (header_answer h) start.totals))
+    (sym c.in-NoHeader.is)
+
+pub returns-in-Reel : goal.returns-in-Reel
+unfolding totals_text
+returns-in-Reel c =
+    let start = c.args in
+    c.put_all.ensures
+    ∙ ap (λ (h : HeaderRead). put_text (page start.out.now start.to) (totals_text (header_answer h) start.totals))
+    (sym c.in-Reel.is)
