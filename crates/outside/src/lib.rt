@@ -77,8 +77,7 @@ fn put(beside: &mut [u8], next: [u8; 32], after: [u8; 32], blocks: Blocks)
 }
 
 // Number 0 or 3, and the 88 bytes follow; or 1 or 2, and they stay.
-#[unsafe(no_mangle)]
-pub extern "C" fn outside_take(
+pub fn outside_take(
     radius: u8,
     beside: &mut [u8],
     bytes: &[u8],

@@ -6,9 +6,9 @@ use mathlib.Core.Path.{◌≡◌, refl, sym, ap, subst, ◌∙◌}
 use mathlib.Core.List.{List}
 use Prim.Native.Nat.{ℕ, ◌+◌, ◌-◌, ◌*◌, ◌/◌, ◌%◌, ◌<◌, ◌≤◌}
 use native.Mathlib.Omega.{arith}
-use borrow.Author.Tests.{le-leb, lt-leb, leb-true, leb-false, eqb-true, eqb-false}
+use borrow.Author.Tests.{leb-true, leb-false, eqb-true, eqb-false}
 use lib.Dec.{eqb, leb}
-use lib.IntN.{ℤ, pos}
+use lib.IntN.{pos}
 use lib.ListN.{get_or}
 use Rattle.bits.proofs.Table.{get_or-tab}
 use Rattle.bits.proofs.Tests.{either_way}
@@ -17,7 +17,7 @@ use Rattle.reading.specs.Search.{reading}
 use Rattle.block.specs.Read.{Said, clean, mended, bad, said, protected, handed_on}
 use Rattle.block_codes.specs.Codes.{code_at}
 use Rattle.frame.specs.Read.{block_of}
-use Rattle.tape.specs.Tape.{frame_at, block_in, reading_in, block_mark}
+use Rattle.tape.specs.Tape.{frame_at, block_in, block_mark}
 use Rattle.block.specs.Mark.{Marked}
 use Rattle.tape.specs.Document.{entry, channel_of, Carries, a_first, a_second, b-first, b-second}
 use Rattle.tape.proofs.Tape.{reading-there}

@@ -25,6 +25,7 @@ fn sound_of(code: i16, factor: u8) -> i16
 }
 
 // 3 where there is no factor.
+#[tactic(auto, unfolding(crate::specs::Sound::mark_with))]
 fn marked(mark: u8, factor: u8) -> u8
     ensures { result ≡ mark_with mark factor }
 {

@@ -1,15 +1,11 @@
--- `sound::fill_by` meets its contract. Assumes nothing.
-use mathlib.Core.Path.{◌≡◌, sym, ap, ◌∙◌}
-use mathlib.Core.List.{[]}
+-- The loop of `sound::fill_by`: both slices are filled below place 4 n, and the marks of n blocks are kept. Assumes nothing.
+use mathlib.Core.Path.{◌≡◌}
 use Prim.Native.Nat.{◌-◌, ◌*◌, ◌≤◌}
-use native.Mathlib.Omega.{arith}
-use lib.ListN.{length, take, length-take, length-drop}
+use lib.ListN.{length, take}
 use Rattle.bits.specs.Table.{tabulate}
-use Rattle.bits.proofs.Table.{tab-none, tab-more, tab-done, filled, filled_zero, filled-all, length-filled}
+use Rattle.bits.proofs.Table.{filled}
 use Rattle.tape.specs.Tape.{block_mark, in_eights}
-use Rattle.sound.specs.Sound.{sample_at, mark_at, in_rows, samples_of, marks_of}
-use Rattle.sound.proofs.Samples.{part-back}
-use borrow.Author.Rules.{rules}
+use Rattle.sound.specs.Sound.{sample_at, mark_at, in_rows}
 use Rattle.sound.proofs.fill_by.Given as goal
 
 abbrev pub invariant-loop-n : goal.invariant-loop-n

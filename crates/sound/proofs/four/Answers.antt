@@ -1,19 +1,23 @@
 -- `sound::four` meets its contract. Assumes nothing.
-use mathlib.Core.Path.{◌≡◌, sym, ap, ◌∙◌}
+use mathlib.Core.Path.{◌≡◌, ap, ◌∙◌}
 use mathlib.Core.List.{List}
-use Prim.Native.Nat.{ℕ, ◌+◌, ◌-◌, ◌*◌, ◌/◌, ◌%◌, ◌<◌, ◌≤◌}
+use Prim.Native.Nat.{ℕ, ◌+◌, ◌*◌, ◌/◌, ◌%◌, ◌<◌}
 use native.Mathlib.Numerals.{add-one}
 use native.Mathlib.Omega.{arith}
-use lib.IntN.{ℤ, pos}
+use lib.IntN.{pos}
 use lib.ListN.{length, get_or}
 use mir.Syntax.{w16}
 use mir.Val.{to_z, of_z}
 use mir.ValLaws.{to_z-of_z}
-use Rattle.bits.proofs.Table.{filled, filled_zero, filled-set, filled-all, length-filled}
+use Rattle.bits.proofs.Table.{filled_zero, filled-set, filled-all}
+use Rattle.sample.specs.Sample.{is_code}
+use Rattle.reading.specs.Reading.{is_radius}
+use lib.Signed.{mag}
+use mathlib.Core.Bool.{true}
 use Rattle.block.specs.Read.{handed_on}
 use Rattle.block_codes.specs.Codes.{codes_at}
-use Rattle.words.specs.Words.{told_of}
-use Rattle.tape.specs.Tape.{block_in, quad_in}
+use Rattle.words.specs.Words.{told_of, Tables}
+use Rattle.tape.specs.Tape.{block_in, block_mark, quad_in, quad_by}
 use Rattle.sound.specs.Sound.{sound_at, mark_with, sample_at, mark_at, in_rows}
 use Rattle.tape.specs.declared.blocks.Quad.{Quad}
 use Rattle.tape.proofs.Quads.{quad-mark, quad-given}
@@ -21,66 +25,56 @@ use Rattle.sound.proofs.Samples.{code-there, code_inside, sample-there, mark-the
 use borrow.Author.Rules.{rules}
 use Rattle.sound.proofs.four.Goals as goal
 
--- from the loop's head back to the block that was read, and to the entry
--- the two slices are as long at the loop's head as they were
+-- a superframe, and a place that is there: the block was not refused
+module _ (table singles pairs places starts : List ℕ) (ones : Tables table singles pairs places starts) (radius : ℕ) (chosen : is_radius radius ≡ true)
+    (sf : List ℕ) (n : ℕ) (whole : (length sf ≡ 5120) × (n < 512)) (q : Quad) (e : q ≡ quad_by table singles pairs places starts radius sf (n / 8) (n % 8)) where
+  given : q ≡ quad_in radius sf (n / 8) (n % 8)
+  given = e ∙ quad-given table singles pairs places starts ones radius chosen sf (n / 8) (n % 8) whole.0 (omega arith) (omega arith)
 
+  mark_is : q.mark ≡ block_mark radius sf (n / 8) (n % 8)
+  mark_is = ap (λ (q : Quad). q.mark) given ∙ quad-mark radius sf (n / 8) (n % 8) (omega arith) (omega arith)
 
-module _ (c : tie.At-loop invariant-loop decreases-loop) where
-  long : length c.loop.samples ≡ 4
-  long =
-      let s = c.before.before.before.before.before in
-      let n : length s.args.samples.now ≡ 4 = s.pre.1.0 in
-      ap length c.loop.invariant.1 ∙ length-filled _ c.loop.j s.args.samples.now (omega arith) ∙ n
+  block : List ℕ
+  block = handed_on radius (block_in sf (n / 8) (n % 8))
 
-  long' : length c.loop.marks ≡ 4
-  long' =
-      let s = c.before.before.before.before.before in
-      let n : length s.args.marks.now ≡ 4 = s.pre.1.1.0 in
-      ap length c.loop.invariant.2 ∙ length-filled _ c.loop.j s.args.marks.now (omega arith) ∙ n
+  -- code j of the block that was read
+  code_is : (j : ℕ) → mag (get_or q.codes j (pos 0)) < 32768 → to_z w16 (of_z w16 (get_or q.codes j (pos 0))) ≡ get_or (codes_at block) j (pos 0)
+  unfolding quad_in told_of block
+  code_is j h = to_z-of_z w16 (get_or q.codes j (pos 0)) (record { sfits = h }) ∙ ap (λ (q : Quad). get_or q.codes j (pos 0)) given
+
+  inside : (j : ℕ) → j < 4 → mag (get_or q.codes j (pos 0)) < 32768 → is_code (to_z w16 (of_z w16 (get_or q.codes j (pos 0)))) ≡ true
+  unfolding block
+  inside j h m = rw (code_is j m, code-there block j h) (code_inside block j)
+
+  -- what is stored in place j of both
+  heard : (factors : List ℕ) (j : ℕ) → j < 4 → mag (get_or q.codes j (pos 0)) < 32768
+      → sound_at (to_z w16 (of_z w16 (get_or q.codes j (pos 0)))) (get_or factors (4 * (n % 8) + j) 0) ≡ in_rows (sample_at radius sf factors) (4 * n + j)
+  unfolding block
+  heard factors j h m = rw (code_is j m) (sample-there radius sf factors n j h)
+
+  said : (factors : List ℕ) (j : ℕ) → j < 4 → mark_with q.mark (get_or factors (4 * (n % 8) + j) 0) ≡ in_rows (mark_at radius sf factors) (4 * n + j)
+  said factors j h = rw mark_is (mark-there radius sf factors n j h)
 
 pub loop-j-init : goal.loop-j-init
 loop-j-init c = (search rules, filled_zero _ _, filled_zero _ _)
 
 pub sound_of-x-requires : goal.sound_of-x-requires
-unfolding quad_in told_of
 sound_of-x-requires c =
-    let given : c.read_at-block.result ≡ quad_in c.args.radius c.args.sf.now (c.args.n / 8) (c.args.n % 8) = let there : c.args.n < 512 = c.pre.0.1 in
-    c.read_at-block.ensures ∙ quad-given _ _ _ _ _ c.pre.1.1.1.0 c.args.radius c.pre.1.1.1.1 c.args.sf.now (c.args.n / 8) (c.args.n % 8) c.pre.0.0 (omega arith) (omega arith) in
-    let block : List ℕ = handed_on c.args.radius (block_in c.args.sf.now (c.args.n / 8) (c.args.n % 8)) in
-    let code_is : to_z w16 (of_z w16 (get_or c.read_at-block.result.codes c.loop-j.j (pos 0)))
-    ≡ get_or (codes_at block) c.loop-j.j (pos 0) = let j = c.loop-j.j in
-    to_z-of_z w16 (get_or c.read_at-block.result.codes j (pos 0)) (record { sfits = c.sound_of-arg-1.given })
-    ∙ ap (λ (q : Quad). get_or q.codes j (pos 0)) given in
-    let j = c.loop-j.j in
-    rw (code_is, code-there block j (omega arith)) (code_inside block j)
-
-pub bounds-samples-j : goal.bounds-samples-j
-bounds-samples-j c = omega (arith, long c)
-
-pub bounds-marks-j : goal.bounds-marks-j
-bounds-marks-j c = omega (arith, long' c)
+    let a = c.args in
+    let r = c.requires in
+    inside _ _ _ _ _ r.tables a.radius r.radius_value a.sf.now a.n r.sf_len c.read_at-block.result c.read_at-block.ensures c.loop-j.j (omega arith) (omega arith)
 
 pub loop-j-preserved : goal.loop-j-preserved
-unfolding quad_in told_of
 loop-j-preserved c =
-    let given : c.read_at-block.result ≡ quad_in c.args.radius c.args.sf.now (c.args.n / 8) (c.args.n % 8) = let there : c.args.n < 512 = c.pre.0.1 in
-    c.read_at-block.ensures ∙ quad-given _ _ _ _ _ c.pre.1.1.1.0 c.args.radius c.pre.1.1.1.1 c.args.sf.now (c.args.n / 8) (c.args.n % 8) c.pre.0.0 (omega arith) (omega arith) in
-    let block : List ℕ = handed_on c.args.radius (block_in c.args.sf.now (c.args.n / 8) (c.args.n % 8)) in
-    let code_is : to_z w16 (of_z w16 (get_or c.read_at-block.result.codes c.loop-j.j (pos 0)))
-    ≡ get_or (codes_at block) c.loop-j.j (pos 0) = let j = c.loop-j.j in
-    to_z-of_z w16 (get_or c.read_at-block.result.codes j (pos 0)) (record { sfits = c.sound_of-arg-1.given })
-    ∙ ap (λ (q : Quad). get_or q.codes j (pos 0)) given in
     let a = c.args in
+    let r = c.requires in
     let j = c.loop-j.j in
-    let n : length a.samples.now ≡ 4 = c.requires.samples_len.0 in
-    let n' : length a.marks.now ≡ 4 = c.requires.samples_len.1.0 in
     let sample : c.sound_of-x.result ≡ in_rows (sample_at a.radius a.sf.now a.factors.now) (4 * a.n + j) =
-    c.sound_of-x.ensures ∙ ap (λ (z : ℤ). sound_at z (get_or a.factors.now (4 * (a.n % 8) + j) 0)) code_is
-    ∙ sample-there a.radius a.sf.now a.factors.now a.n j (omega arith) in
+    c.sound_of-x.ensures
+    ∙ heard _ _ _ _ _ r.tables a.radius r.radius_value a.sf.now a.n r.sf_len c.read_at-block.result c.read_at-block.ensures a.factors.now j (omega arith) (omega arith) in
     let mark : c.marked-m.result ≡ in_rows (mark_at a.radius a.sf.now a.factors.now) (4 * a.n + j) =
-    c.marked-m.ensures ∙ ap (λ (q : Quad). mark_with q.mark (get_or a.factors.now (4 * (a.n % 8) + j) 0)) given
-    ∙ ap (λ (m : ℕ). mark_with m (get_or a.factors.now (4 * (a.n % 8) + j) 0)) (quad-mark a.radius a.sf.now (a.n / 8) (a.n % 8) (omega arith) (omega arith))
-    ∙ mark-there a.radius a.sf.now a.factors.now a.n j (omega arith) in (
+    c.marked-m.ensures
+    ∙ said _ _ _ _ _ r.tables a.radius r.radius_value a.sf.now a.n r.sf_len c.read_at-block.result c.read_at-block.ensures a.factors.now j (omega arith) in (
       search rules,
       rw (to_z-of_z w16 c.sound_of-x.result (record { sfits = c.sound_of-x.type_inv }), sample, c.loop-j.invariant.1, add-one)
           (filled-set (λ j. in_rows (sample_at a.radius a.sf.now a.factors.now) (4 * a.n + j)) j a.samples.now (omega arith)),
@@ -88,17 +82,13 @@ loop-j-preserved c =
           (filled-set (λ j. in_rows (mark_at a.radius a.sf.now a.factors.now) (4 * a.n + j)) j a.marks.now (omega arith)),
     )
 
-pub shape_of-samples : goal.shape_of-samples
-shape_of-samples c = long c ∙ sym c.pre.1.0
-
-pub shape_of-marks : goal.shape_of-marks
-shape_of-marks c = long' c ∙ sym c.pre.1.1.0
-
 pub returns : goal.returns
 returns c =
-    let given : c.read_at-block.result ≡ quad_in c.args.radius c.args.sf.now (c.args.n / 8) (c.args.n % 8) = let there : c.args.n < 512 = c.pre.0.1 in
-    c.read_at-block.ensures ∙ quad-given _ _ _ _ _ c.pre.1.1.1.0 c.args.radius c.pre.1.1.1.1 c.args.sf.now (c.args.n / 8) (c.args.n % 8) c.pre.0.0 (omega arith) (omega arith) in
-    let e : c.loop-j.j ≡ 4 = omega arith in (
-      ap (λ (q : Quad). q.mark) given ∙ quad-mark c.args.radius c.args.sf.now (c.args.n / 8) (c.args.n % 8) (omega arith) (omega arith),
-      (c.loop-j.invariant.1 ∙ rw e (filled-all _ 4 c.args.samples.now c.pre.1.0), c.loop-j.invariant.2 ∙ rw e (filled-all _ 4 c.args.marks.now c.pre.1.1.0)),
-    )
+    let a = c.args in
+    let r = c.requires in
+    let e : c.loop-j.j ≡ 4 = omega arith in
+    record {
+      value = mark_is _ _ _ _ _ r.tables a.radius r.radius_value a.sf.now a.n r.sf_len c.read_at-block.result c.read_at-block.ensures;
+      samples_after = c.loop-j.invariant.1 ∙ rw e (filled-all _ 4 a.samples.now r.samples_len);
+      marks_after = c.loop-j.invariant.2 ∙ rw e (filled-all _ 4 a.marks.now r.marks_len);
+    }

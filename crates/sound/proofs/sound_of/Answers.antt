@@ -6,7 +6,6 @@ use Rattle.sample.specs.Sample.{sample_answer}
 use mir.Syntax.{w16}
 use mir.ValLaws.{to_z-of_z}
 use Rattle.sound.proofs.Samples.{or_zero, sound-answer}
-use borrow.Author.Rules.{rules}
 use Rattle.sound.proofs.sound_of.Goals as goal
 
 pub returns-in-Sample : goal.returns-in-Sample
