@@ -2,11 +2,16 @@
 // its first argument names, and without such an argument it says nothing.
 #![tactic(auto)]
 
+mod descriptor;
+
 ghost use Rattle.std.specs.Prelude.{◌≡◌};
 ghost use Rattle.text.specs.Page.{page, put_text};
 ghost use Rattle.ending.specs.Word.{descriptor_of, ending_of, error_line, file_line, word_of};
 
-#[derive(Drop)]
+use std::env::Env;
+use std::rt::Files;
+
+#[derive(Clone, Copy)]
 pub enum Ended {
     // all was read and written
     Whole,
@@ -87,26 +92,26 @@ pub fn descriptor_of(argument: &[u8]) -> u8
 }
 
 // Writes the first bytes of a page to whoever asked for a word.
-fn write_word(page: &[u8], end: usize) {
+fn write_word<R: Env + Files>(rt: &R, page: &[u8], end: usize) {
     let mut argument = [0u8; 16];
-    let n = os::arg(1, &mut argument);
+    let n = streams::argument(rt, 1, &mut argument);
     let fd = descriptor_of(&argument[..n]);
     if fd == 0 {
         return;
     }
-    streams::write_first(fd as i32, page, end);
+    descriptor::write_first(rt, fd, page, end);
 }
 
 // Says how the program ended, to whoever asked for it.
-pub fn say(ended: Ended) {
+pub fn say<R: Env + Files>(rt: &R, ended: Ended) {
     let mut out = [0u8; 32];
     let end = put_word(&mut out, 0, ended);
-    write_word(&out, end);
+    write_word(rt, &out, end);
 }
 
 // Says which file failed, by its name, and how.
-pub fn say_file(error: u32, name: &[u8]) {
+pub fn say_file<R: Env + Files>(rt: &R, error: u32, name: &[u8]) {
     let mut out = [0u8; 64];
     let end = put_file(&mut out, 0, error, name);
-    write_word(&out, end);
+    write_word(rt, &out, end);
 }

@@ -1,4 +1,4 @@
-// A reel that comes on standard input, in pieces: its header, and the bytes before its first superframe; and the radius that it shall be read at.
+// A reel that comes from a reader, as standard input is one, in pieces: its header, and the bytes before its first superframe; and the radius that it shall be read at.
 // What comes from outside is not promised; what is made of it is. A read that fails is not the end of the reel: it is handed on by its error, 0 where none failed.
 #![tactic(auto)]
 
@@ -13,8 +13,9 @@ use ending::Ended;
 pub use fault::fault_of;
 pub use radius::{radius_at, radius_of};
 use reel::HeaderRead;
+use std::io::Read;
 
-#[derive(Drop)]
+#[derive(Clone, Copy)]
 pub struct Start {
     pub header: HeaderRead,
     // why the header is refused, `Whole` where it is not
@@ -23,11 +24,11 @@ pub struct Start {
 }
 
 // What the first 16 bytes say, or fewer where there are not so many.
-pub fn header() -> Start
+pub fn header<R: Read>(from: &mut R) -> Start
     ensures { SomeHeader (header_answer result.header) result.fault }
 {
     let mut bytes = [0u8; 16];
-    let filled = streams::fill(0, &mut bytes);
+    let filled = streams::fill(from, &mut bytes);
     let n = filled.n;
     Start {
         header: reel::read_header(&bytes[..n]),
@@ -42,18 +43,18 @@ fn least(a: usize, b: usize) -> usize
     if a < b { a } else { b }
 }
 
-#[derive(Drop)]
+#[derive(Clone, Copy)]
 struct Passed {
     got: u32,
     error: u32,
 }
 
 // Reads at most so many bytes over a piece, and answers how many came.
-fn read_over(piece: &mut [u8], most: u32) -> Passed
+fn read_over<R: Read>(from: &mut R, piece: &mut [u8], most: u32) -> Passed
     ensures { result.got ≤ most }
 {
     let want = least(most as usize, piece.len());
-    let filled = streams::fill(0, &mut piece[..want]);
+    let filled = streams::fill(from, &mut piece[..want]);
     Passed {
         got: least(filled.n, most as usize) as u32,
         error: filled.error,
@@ -61,11 +62,11 @@ fn read_over(piece: &mut [u8], most: u32) -> Passed
 }
 
 // Reads on past so many bytes, without holding them, or to the end of input.
-fn skip(count: u32) -> u32 {
+fn skip<R: Read>(from: &mut R, count: u32) -> u32 {
     let mut left = count;
     while 0 < left {
-        let mut piece = io::buffer();
-        let passed = read_over(&mut piece, left);
+        let mut piece = [0u8; 4096];
+        let passed = read_over(from, &mut piece, left);
         let error = passed.error;
         if error != 0 {
             return error;
@@ -80,11 +81,11 @@ fn skip(count: u32) -> u32 {
 }
 
 // Behind the 16 bytes of a header, reads on to the first superframe.
-pub fn skip_to(offset: u32) -> u32
+pub fn skip_to<R: Read>(from: &mut R, offset: u32) -> u32
     ensures { offset ≤ 16 → result ≡ 0 }
 {
     if 16 < offset {
-        return skip(offset - 16);
+        return skip(from, offset - 16);
     }
     0
 }

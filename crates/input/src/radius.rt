@@ -2,6 +2,8 @@
 ghost use Rattle.std.specs.Prelude.{◌≡◌};
 ghost use Rattle.input.specs.Radius.{radius_of, SomeRadius};
 
+use std::env::{Env, FillError};
+
 // 0 where it is neither 2 nor 3.
 pub fn radius_of(argument: &[u8]) -> u8
     ensures { result ≡ radius_of argument.now }
@@ -19,13 +21,13 @@ pub fn radius_of(argument: &[u8]) -> u8
 }
 
 // That of the argument with a number, and the ordinary one where there are not so many. One that is too long is none.
-pub fn radius_at(number: usize) -> u8
+pub fn radius_at<E: Env>(env: &E, number: usize) -> u8
     ensures { SomeRadius result }
 {
-    if os::arg_count() <= number {
-        return reading::ORDINARY;
-    }
     let mut argument = [0u8; 4];
-    let n = os::arg(number, &mut argument);
-    radius_of(&argument[..n])
+    match env.arg(number, &mut argument) {
+        Ok(n) => radius_of(&argument[..n]),
+        Err(FillError::TooLong) => 0,
+        Err(FillError::NotPresent) => reading::ORDINARY,
+    }
 }

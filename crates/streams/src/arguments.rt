@@ -1,0 +1,14 @@
+// The arguments that a program is started with, as the bytes that they are.
+ghost use Rattle.io.specs.Counts.{IsPrefixLen};
+
+use std::env::Env;
+
+// Puts an argument at the start of a buffer, and answers how many bytes it has: 0 where it is missing, or does not fit.
+pub fn argument<E: Env>(env: &E, number: usize, buf: &mut [u8]) -> usize
+    ensures { IsPrefixLen result buf.new }
+{
+    match env.arg(number, buf) {
+        Ok(n) => n,
+        Err(_) => 0,
+    }
+}
