@@ -154,6 +154,7 @@ fn fill_all(
 }
 
 // Whether a superframe and the two lists for its samples and marks have their lengths.
+#[tactic(auto, unfolding(crate::specs::Sound::lengths_fit))]
 pub fn lengths_fit(bytes: usize, samples: usize, marks: usize) -> bool
     ensures { result ≡ lengths_fit bytes samples marks }
 {
