@@ -45,10 +45,13 @@ record Stands (q f b frame place : ℕ) : Type 0 where
   small : (1 ≤ place) × (place ≤ 2)
 
 stands : (q f b frame place : ℕ) → 1 ≤ f → 1 ≤ b → b ≤ 4 → Carries f b q frame place → Stands q f b frame place
-stands q f b frame place k l u a_first = record { programme = omega arith; block = omega arith; main = omega arith; small = (omega arith, omega arith) }
-stands q f b frame place k l u a_second = record { programme = omega arith; block = omega arith; main = omega arith; small = (omega arith, omega arith) }
-stands q f b frame place k l u b-first = record { programme = omega arith; block = omega arith; main = omega arith; small = (omega arith, omega arith) }
-stands q f b frame place k l u b-second = record { programme = omega arith; block = omega arith; main = omega arith; small = (omega arith, omega arith) }
+stands q f b frame place k l u carried = by_place b k l u q frame place carried
+  where
+    by_place : (b : ℕ) → 1 ≤ f → 1 ≤ b → b ≤ 4 → (q frame place : ℕ) → Carries f b q frame place → Stands q f b frame place
+    by_place b k l u q frame place a_first = record { programme = omega arith; block = omega arith; main = omega arith; small = (omega arith, omega arith) }
+    by_place b k l u q frame place a_second = record { programme = omega arith; block = omega arith; main = omega arith; small = (omega arith, omega arith) }
+    by_place b k l u q frame place b-first = record { programme = omega arith; block = omega arith; main = omega arith; small = (omega arith, omega arith) }
+    by_place b k l u q frame place b-second = record { programme = omega arith; block = omega arith; main = omega arith; small = (omega arith, omega arith) }
 
 -- a bit of a superframe, by its main frame and its place there
 apart : (a a' x x' : ℕ) → x < 320 → x' < 320 → 320 * a + x ≡ 320 * a' + x' → (a ≡ a') × (x ≡ x')

@@ -6,7 +6,7 @@
 --     none-for-71           where the labels have made no way, the next 71 calls hand out none, taken, lost or refused
 --     loss-none, drop-none  behind a loss; behind a dropped group, a dropped Sync 2 or a 7
 -- Assumes nothing.
-use mathlib.Core.Path.{◌≡◌, refl, sym, ap, ◌∙◌}
+use mathlib.Core.Path.{◌≡◌, refl, sym, ap, subst, ◌∙◌}
 use mathlib.Core.Bool.{true, false}
 use mathlib.Core.List.{List}
 use Prim.Native.Nat.{ℕ, zero, suc, ◌+◌, ◌<◌, ◌≤◌}
@@ -158,4 +158,4 @@ pub drop-none : (state : ℕ → State) (calls : Calls state) (s : State) (k : C
 drop-none state calls s k z d e =
     let h = accepted-in-range s k z in
     let reset = progress.drop-resets (service_of s) (step_in k).six (step_in k).sync (service-fact s h) (sync-below k.bytes) d in
-    none-for-71 state calls (rw e (take-in-range s k h)) (rw (e, served-next s k z) reset)
+    none-for-71 state calls (rw e (take-in-range s k h)) (subst (λ (v : Service). progress.progress v ≤ 1) (sym (ap service_of e ∙ served-next s k z)) reset)

@@ -4,7 +4,7 @@
 --     run-sums          "clean, mended and bad of a programme add up to 64 times the superframes taken, which are those given and not lost"
 --     run-full          the history is full, which number 9 says, exactly where 1,000,000 superframes were given since the last reset; there are never more
 -- Assumes nothing.
-use mathlib.Core.Path.{◌≡◌, refl, sym, ap, ◌∙◌}
+use mathlib.Core.Path.{◌≡◌, refl, sym, ap, subst, ◌∙◌}
 use mathlib.Core.Bool.{true, false, true≢false, cond}
 use mathlib.Core.List.{List}
 use Prim.Native.Nat.{ℕ, ◌+◌, ◌-◌, ◌*◌, ◌≤◌}
@@ -24,6 +24,8 @@ use Rattle.running.proofs.Sums.{sum_is, few}
 use Rattle.superframe.specs.State.{state_in_range, lost_with, reset_with}
 use Rattle.superframe.specs.Take.{beside_with, refused_with, take_answer}
 use Rattle.superframe.specs.declared.state.State.{State}
+use Rattle.superframe.specs.declared.state.Lost.{Lost}
+use Rattle.superframe.specs.declared.state.Reset.{Reset}
 use Rattle.superframe.specs.declared.state.Serviced.{Serviced}
 use Rattle.superframe.specs.declared.taking.Taken.{Taken}
 use Rattle.superframe.proofs.Parts.{running-in-range}
@@ -36,9 +38,10 @@ use Rattle.history.proofs.Answers.{answer-is}
 -- ---- the states are in range
 made-in-range : (s s' : State) (e : Asked) → Made s e s' → state_in_range s ≡ true → state_in_range s' ≡ true
 made-in-range s s' e (taking k) h = take-in-range s k h
-made-in-range s s' e (losing r m) h = rw m (lose-in-range s h)
-made-in-range s s' e (serving six sync r m) h = rw m (service-keeps-range s (record { six = six; sync = sync }) h)
-made-in-range s s' e (resetting r m) h = rw m (reset-in-range s h)
+made-in-range s s' e (losing r m) h = subst (λ (r : Lost). state_in_range r.next ≡ true) (sym m) (lose-in-range s h)
+made-in-range s s' e (serving six sync r m) h =
+    subst (λ (r : Serviced). state_in_range r.next ≡ true) (sym m) (service-keeps-range s (record { six = six; sync = sync }) h)
+made-in-range s s' e (resetting r m) h = subst (λ (r : Reset). state_in_range r.next ≡ true) (sym m) (reset-in-range s h)
 
 pub run-in-range : (s : State) (es : List Asked) → Run s es → state_in_range s ≡ true
 run-in-range s es begun = fresh-in-range
@@ -73,9 +76,11 @@ made-totals : (s s' : State) (e : Asked) → Made s e s' → s'.totals ≡ after
 unfolding after
 made-totals s s' e (taking k) =
     ap (λ (r : Taken). r.next.totals) (answer-is s k k.answer.number refl) ∙ answer-totals k.radius k.answer.number s k.bytes
-made-totals s s' e (losing r m) = rw m (lose-totals s)
+made-totals s s' e (losing r m) =
+    subst (λ (r : Lost). r.next.totals ≡ after s.totals (lose r.number)) (sym m) (lose-totals s)
 made-totals s s' e (serving six sync r m) = ap (λ (r : Serviced). r.next.totals) m ∙ service-counts s six sync
-made-totals s s' e (resetting r m) = rw m (reset-totals s)
+made-totals s s' e (resetting r m) =
+    subst (λ (r : Reset). r.next.totals ≡ after s.totals (reset r.number)) (sym m) (reset-totals s)
 
 -- ---- counted over the calls
 starts : (t : Running) (e : Asked) → is_reset e ≡ true → after t e ≡ no_running

@@ -1,0 +1,20 @@
+-- `beside_text::put_factors` meets its contract. Assumes nothing.
+use Prim.Native.Nat.{ℕ, ◌-◌, ◌≤◌}
+use mathlib.Core.Path.{◌≡◌, refl, ap, ◌∙◌}
+use mathlib.Core.List.{List}
+use native.Mathlib.Omega.{arith}
+use lib.ListN.{length, get_or}
+use Rattle.bits.specs.Letters.{letters}
+use Rattle.text.specs.Page.{page, put_text}
+use Rattle.text_rows.specs.Turns.{in_turn, part}
+use Rattle.beside_text.specs.Lines.{pair_text, factors_line}
+use Rattle.text_rows.proofs.Turns.{turn_more, turn-line, part_cut}
+use borrow.Author.Rules.{rules}
+use Rattle.beside_text.proofs.put_factors.Given as goal
+
+abbrev pub invariant-loop-q : goal.invariant-loop-q
+invariant-loop-q l =
+    (l.q ≤ 16) × (length l.out ≡ length l.initial.out) × (page l.out l.end ≡ put_text (page l.initial.out l.initial.end) (in_turn l.q (λ i. pair_text (get_or l.numbers i 0) (part 2 i l.factors))))
+
+abbrev pub decreases-loop-q : goal.decreases-loop-q
+decreases-loop-q l = 16 - l.q

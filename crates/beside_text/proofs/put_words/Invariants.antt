@@ -1,0 +1,20 @@
+-- `beside_text::put_words` meets its contract. Assumes nothing.
+use Prim.Native.Nat.{◌-◌, ◌≤◌}
+use mathlib.Core.Path.{◌≡◌, refl}
+use native.Mathlib.Omega.{arith}
+use lib.ListN.{length, get_or}
+use Rattle.bits.specs.Digits.{digits}
+use Rattle.bits.specs.Letters.{letters}
+use Rattle.text.specs.Page.{page, put_text}
+use Rattle.text_rows.specs.Turns.{in_turn}
+use Rattle.beside_text.specs.Lines.{next_hex, words_line}
+use Rattle.text_rows.proofs.Turns.{turn_more, turn-line}
+use borrow.Author.Rules.{rules}
+use Rattle.beside_text.proofs.put_words.Given as goal
+
+abbrev pub invariant-loop-q : goal.invariant-loop-q
+invariant-loop-q l =
+    (l.q ≤ 16) × (length l.out ≡ length l.initial.out) × (page l.out l.end ≡ put_text (page l.initial.out l.initial.end) (in_turn l.q (λ i. next_hex (digits 256 3 (get_or l.words i 0)))))
+
+abbrev pub decreases-loop-q : goal.decreases-loop-q
+decreases-loop-q l = 16 - l.q
