@@ -19,6 +19,9 @@ mod takes; // takes.rt: take
 mod totals; // totals.rt: the words of running totals
 mod words; // words.rt: the words of a line
 
+use std::io;
+use std::io::{Read, Write};
+
 // What is held of the line that is being read.
 #[derive(Drop)]
 struct Held {
@@ -29,84 +32,85 @@ struct Held {
 }
 
 // A line of any length goes through: what does not fit is echoed at once.
-fn hold(line: &mut [u8], held: Held, byte: u8) -> Held {
+fn hold<W: Write>(out: &mut W, line: &mut [u8], held: Held, byte: u8) -> io::Result<Held> {
     let count = held.count;
     if count < line.len() {
         line[count] = byte;
-        return Held {
+        return Ok(Held {
             count: count + 1,
             spilled: held.spilled,
-        };
+        });
     }
-    io::write_all(1, line);
+    out.write_all(line)?;
     text::put(line, 0, byte);
-    Held {
+    Ok(Held {
         count: 1,
         spilled: true,
-    }
+    })
 }
 
-fn finish(line: &[u8], held: Held) {
+fn finish<W: Write>(out: &mut W, line: &[u8], held: Held) -> io::Result<()> {
     let count = held.count;
     if line.len() < count {
-        return;
+        return Ok(());
     }
     if held.spilled {
-        io::write_all(1, &line[0..count]);
-        io::write_all(1, b" = ?\n");
-        return;
+        out.write_all(&line[0..count])?;
+        return out.write_all(b" = ?\n");
     }
     let page = lines::answer(&line[0..count]);
     let bytes = page.bytes;
-    write_answer(&bytes, page.count);
+    write_answer(out, &bytes, page.count)
 }
 
-fn write_answer(out: &[u8], end: usize) {
-    if end <= out.len() {
-        io::write_all(1, &out[0..end]);
+fn write_answer<W: Write>(out: &mut W, bytes: &[u8], end: usize) -> io::Result<()> {
+    if end <= bytes.len() {
+        return out.write_all(&bytes[0..end]);
     }
+    Ok(())
 }
 
-fn step(line: &mut [u8], held: Held, byte: u8) -> Held {
+fn step<W: Write>(out: &mut W, line: &mut [u8], held: Held, byte: u8) -> io::Result<Held> {
     if byte == b'\n' {
-        finish(line, held);
-        return Held {
+        finish(out, line, held)?;
+        return Ok(Held {
             count: 0,
             spilled: false,
-        };
+        });
     }
-    hold(line, held, byte)
+    hold(out, line, held, byte)
 }
 
-fn take(piece: &[u8], line: &mut [u8], before: Held) -> Held {
+fn take<W: Write>(out: &mut W, piece: &[u8], line: &mut [u8], before: Held) -> io::Result<Held> {
     let mut held = before;
     let mut i: usize = 0;
     while i < piece.len() {
-        held = step(line, held, piece[i]);
+        held = step(out, line, held, piece[i])?;
         i += 1;
     }
-    held
+    Ok(held)
 }
 
-// A proved loop has to end, and nothing says that the input does: so the turns are counted, from a number that no run uses up.
-fn main() {
+// A proved loop has to end, and nothing says that the input does: so the turns are counted, up to a number that no run uses up. A read or a write
+// that fails ends the program with its error.
+fn main(rt: HostRuntime) -> io::Result<()> {
+    let mut input = rt.stdin();
+    let mut out = rt.stdout();
     let mut line = [0u8; 1185];
     let mut held = Held {
         count: 0,
         spilled: false,
     };
-    let mut turns = u64::MAX;
-    while 0 < turns {
-        let mut piece = io::buffer();
-        let got = libc::read(0, &mut piece);
-        if got <= 0 {
+    for _ in 0..u64::MAX {
+        let mut piece = [0u8; 4096];
+        let n = input.read(&mut piece)?;
+        if n == 0 {
             break;
         }
-        let n = io::count(got, &piece);
-        held = take(&piece[..n], &mut line, held);
-        turns -= 1;
+        held = take(&mut out, &piece[..n], &mut line, held)?;
     }
     if 0 < held.count {
-        finish(&line, held);
+        finish(&mut out, &line, held)?;
     }
+    Ok(())
 }

@@ -5,7 +5,7 @@ use crate::pages::Page;
 use crate::{signs, sums, words};
 use sample::{Chosen, Coded, Sampled};
 
-#[derive(Drop)]
+#[derive(Clone, Copy)]
 pub(crate) enum Way {
     ToCode,
     ToSample,
