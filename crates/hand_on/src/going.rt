@@ -2,15 +2,16 @@
 // Superframes count from 0 here.
 ghost use Rattle.std.specs.Prelude.{◌+◌, ◌<◌, ◌≤◌};
 
-use crate::files::Fault;
+use crate::files::{Fault, Opened};
 use crate::names::Noted;
 use crate::{files, names, pages, stretch};
+use std::io::Stdin;
 use stretches::Stepped;
 use superframe::{State, Taken};
 use tally::Totals;
 use tape::Counted;
 
-#[derive(Drop)]
+#[derive(Clone, Copy)]
 pub struct Going {
     // at which every superframe is taken
     pub radius: u8,
@@ -21,7 +22,7 @@ pub struct Going {
     pub noted: Noted,
 }
 
-#[derive(Drop)]
+#[derive(Clone, Copy)]
 pub struct Batch {
     pub going: Going,
     // how many superframes were read
@@ -59,7 +60,7 @@ fn counted(going: Going, taken: Taken, bytes: &[u8; 5120]) -> Totals {
     listed.next
 }
 
-#[derive(Drop)]
+#[derive(Clone, Copy)]
 struct Standing {
     // the place behind the words
     end: usize,
@@ -81,7 +82,7 @@ fn put(
     Standing { end, fault }
 }
 
-#[derive(Drop)]
+#[derive(Clone, Copy)]
 struct Told {
     going: Going,
     fault: Fault,
@@ -89,7 +90,7 @@ struct Told {
 
 // What it does to the stretches, the names and the totals.
 fn tell(
-    fds: [i32; 53],
+    opened: &Opened,
     k: u32,
     going: Going,
     taken: Taken,
@@ -101,13 +102,13 @@ fn tell(
     let before = going.state;
     let open = going.tracks;
     let lost = taken.number != 0;
-    let stepped = stretch::step(fds, open, k, lost, marks);
+    let stepped = stretch::step(opened, open, k, lost, marks);
     let fault = stepped.fault;
     if fault.error != 0 {
         return Told { going, fault };
     }
     let noted = going.noted;
-    let heard = names::hear(fds, noted, k + 1, before, taken);
+    let heard = names::hear(opened, noted, k + 1, before, taken);
     let state = taken.next;
     let totals = counted(going, taken, bytes);
     let tracks = stepped.tracks;
@@ -124,7 +125,7 @@ fn tell(
 }
 
 // After a superframe, or where none came.
-#[derive(Drop)]
+#[derive(Clone, Copy)]
 struct Taking {
     going: Going,
     // the place behind the words
@@ -138,7 +139,7 @@ struct Taking {
 
 // Superframe k.
 fn hand_superframe(
-    fds: [i32; 53],
+    opened: &Opened,
     pages: &mut [u8],
     k: u32,
     last: Taking,
@@ -152,7 +153,7 @@ fn hand_superframe(
     let state = going.state;
     let taken = state.take(going.radius, bytes, &mut samples, &mut marks);
     let there = put(pages, last.end, k, taken, &samples, &marks);
-    let told = tell(fds, k, going, taken, &marks, bytes);
+    let told = tell(opened, k, going, taken, &marks, bytes);
     let next = told.going;
     let fault = files::first(there.fault, told.fault);
     Taking {
@@ -165,11 +166,12 @@ fn hand_superframe(
 }
 
 // Superframe k, where it comes.
-fn hand_next(fds: [i32; 53], pages: &mut [u8], k: u32, last: Taking) -> Taking
+fn hand_next(from: Stdin, opened: &Opened, pages: &mut [u8], k: u32, last: Taking) -> Taking
     requires { k < 4294967295 }
 {
     let mut bytes = [0u8; 5120];
-    let filled = streams::fill(0, &mut bytes);
+    let mut from = from;
+    let filled = streams::fill(&mut from, &mut bytes);
     if filled.n < 5120 {
         let going = last.going;
         let fault = files::fine();
@@ -181,10 +183,10 @@ fn hand_next(fds: [i32; 53], pages: &mut [u8], k: u32, last: Taking) -> Taking
             over: true,
         };
     }
-    hand_superframe(fds, pages, k, last, &bytes)
+    hand_superframe(opened, pages, k, last, &bytes)
 }
 
-#[derive(Drop)]
+#[derive(Clone, Copy)]
 struct Row {
     last: Taking,
     // the superframe behind the last
@@ -192,7 +194,14 @@ struct Row {
 }
 
 // Superframes from one on, as many as come, are promised and have room in the pages.
-fn hand_row(fds: [i32; 53], pages: &mut [u8], start: Taking, first: u32, count: u32) -> Row
+fn hand_row(
+    rt: HostRuntime,
+    opened: &Opened,
+    pages: &mut [u8],
+    start: Taking,
+    first: u32,
+    count: u32,
+) -> Row
     requires { first < count }
     ensures { (result.k ≤ first + 64) × (result.k ≤ count) × (first ≤ result.k) }
 {
@@ -202,12 +211,12 @@ fn hand_row(fds: [i32; 53], pages: &mut [u8], start: Taking, first: u32, count: 
         if k - first == 64 {
             break;
         }
-        last = hand_next(fds, pages, k, last);
+        last = hand_next(rt.stdin(), opened, pages, k, last);
         if last.over {
             break;
         }
         k += 1;
-        streams::show(k, count);
+        streams::show(rt.stderr(), k, count);
     }
     Row { last, k }
 }
@@ -223,26 +232,32 @@ fn start(going: Going) -> Taking {
     }
 }
 
-fn write_row(fds: [i32; 53], pages: &[u8], n: u32, last: Taking) -> Fault
+fn write_row(opened: &Opened, pages: &[u8], n: u32, last: Taking) -> Fault
     requires { n ≤ 64 }
 {
     let fault = last.fault;
     if fault.error != 0 {
         return fault;
     }
-    pages::write(fds, pages, n as usize, last.end)
+    pages::write(opened, pages, n as usize, last.end)
 }
 
 // The next superframes, up to 64.
-pub(crate) fn hand_batch(fds: [i32; 53], going: Going, first: u32, count: u32) -> Batch
+pub(crate) fn hand_batch(
+    rt: HostRuntime,
+    opened: &Opened,
+    going: Going,
+    first: u32,
+    count: u32,
+) -> Batch
     requires { first < count }
     ensures { (result.n ≤ 64) × (first + result.n ≤ count) }
 {
-    let mut pages = [0u8; 532480];
-    let row = hand_row(fds, &mut pages, start(going), first, count);
+    let mut pages = pages::blank();
+    let row = hand_row(rt, opened, &mut pages, start(going), first, count);
     let last = row.last;
     let n = row.k - first;
-    let fault = write_row(fds, &pages, n, last);
+    let fault = write_row(opened, &pages, n, last);
     let next = last.going;
     Batch {
         going: next,

@@ -11,12 +11,12 @@ mod stretch; // stretch.rt: the sixteen label tracks
 mod finish; // finish.rt: what can be written only behind the last superframe
 
 use ending::Ended;
-use files::Fault;
+use files::{Fault, Opened};
 use going::Going;
 use reel::HeaderRead;
 
 // How it ended: with the files as they should be, or with a file that failed.
-#[derive(Drop)]
+#[derive(Clone, Copy)]
 struct Handed {
     ended: Ended,
     fault: Fault,
@@ -36,7 +36,7 @@ fn ends(ended: Ended) -> Handed {
     }
 }
 
-#[derive(Drop)]
+#[derive(Clone, Copy)]
 struct Superframes {
     going: Going,
     // how many were read
@@ -47,13 +47,13 @@ struct Superframes {
 }
 
 // The superframes that come, at most as many as the header promises.
-fn hand_superframes(fds: [i32; 53], count: u32, radius: u8) -> Superframes {
+fn hand_superframes(rt: HostRuntime, opened: &Opened, count: u32, radius: u8) -> Superframes {
     let mut going = Going::none(radius);
     let mut done: u32 = 0;
     let mut error: u32 = 0;
     let mut fault = files::fine();
     while done < count {
-        let batch = going::hand_batch(fds, going, done, count);
+        let batch = going::hand_batch(rt, opened, going, done, count);
         let n = batch.n;
         going = batch.going;
         error = batch.error;
@@ -66,7 +66,7 @@ fn hand_superframes(fds: [i32; 53], count: u32, radius: u8) -> Superframes {
             break;
         }
     }
-    streams::wipe(done);
+    streams::wipe(rt.stderr(), done);
     Superframes {
         going,
         done,
@@ -75,14 +75,14 @@ fn hand_superframes(fds: [i32; 53], count: u32, radius: u8) -> Superframes {
     }
 }
 
-fn hand_reel(header: HeaderRead, count: u32, radius: u8) -> Handed {
-    let made = files::make_all(count);
+fn hand_reel(rt: HostRuntime, header: HeaderRead, count: u32, radius: u8) -> Handed {
+    let made = files::make_all(rt, count);
     let missing = made.fault;
     if missing.error != 0 {
         return failed(missing);
     }
-    let fds = made.fds;
-    let read = hand_superframes(fds, count, radius);
+    let opened = made.opened;
+    let read = hand_superframes(rt, &opened, count, radius);
     let fault = read.fault;
     if fault.error != 0 {
         return failed(fault);
@@ -92,7 +92,7 @@ fn hand_reel(header: HeaderRead, count: u32, radius: u8) -> Handed {
         return ends(Ended::NotRead(error));
     }
     let going = read.going;
-    let last = finish::finish(fds, header, count, read.done, going);
+    let last = finish::finish(rt, &opened, header, count, read.done, going);
     if last.error != 0 {
         return failed(last);
     }
@@ -100,23 +100,25 @@ fn hand_reel(header: HeaderRead, count: u32, radius: u8) -> Handed {
 }
 
 // With a count of 0 nothing more is read.
-fn hand_from(header: HeaderRead, count: u32, offset: u32, radius: u8) -> Handed {
+fn hand_from(rt: HostRuntime, header: HeaderRead, count: u32, offset: u32, radius: u8) -> Handed {
     if count == 0 {
-        return hand_reel(header, 0, radius);
+        return hand_reel(rt, header, 0, radius);
     }
-    let error = input::skip_to(offset);
+    let mut from = rt.stdin();
+    let error = input::skip_to(&mut from, offset);
     if error != 0 {
         return ends(Ended::NotRead(error));
     }
-    hand_reel(header, count, radius)
+    hand_reel(rt, header, count, radius)
 }
 
-fn hand() -> Handed {
-    let radius = input::radius_at(4);
+fn hand(rt: HostRuntime) -> Handed {
+    let radius = input::radius_at(&rt, 4);
     if radius == 0 {
         return ends(Ended::NoRadius);
     }
-    let start = input::header();
+    let mut from = rt.stdin();
+    let start = input::header(&mut from);
     let error = start.error;
     if error != 0 {
         return ends(Ended::NotRead(error));
@@ -125,30 +127,30 @@ fn hand() -> Handed {
     let fault = start.fault;
     match header {
         HeaderRead::NoHeader => ends(fault),
-        HeaderRead::Reel { count, offset } => hand_from(header, count, offset, radius),
+        HeaderRead::Reel { count, offset } => hand_from(rt, header, count, offset, radius),
     }
 }
 
 // The name stands in the first bytes of a page.
-fn tell_first(error: u32, page: &[u8], end: usize) {
+fn tell_first(rt: &HostRuntime, error: u32, page: &[u8], end: usize) {
     if end <= page.len() {
-        ending::say_file(error, &page[0..end]);
+        ending::say_file(rt, error, &page[0..end]);
     }
 }
 
 // The file that failed by its name, or how it ended.
-fn tell(handed: Handed) {
+fn tell(rt: &HostRuntime, handed: Handed) {
     let fault = handed.fault;
     if fault.error == 0 {
         let ended = handed.ended;
-        ending::say(ended);
+        ending::say(rt, ended);
         return;
     }
     let mut name = [0u8; 32];
     let end = folder::put_name(&mut name, 0, fault.file);
-    tell_first(fault.error, &name, end);
+    tell_first(rt, fault.error, &name, end);
 }
 
-fn main() {
-    tell(hand());
+fn main(rt: HostRuntime) {
+    tell(&rt, hand(rt));
 }

@@ -1,18 +1,18 @@
 // The lines of types and labels, which are written when they come.
 use crate::files;
-use crate::files::Fault;
+use crate::files::{Fault, Opened};
 use name_lines::Labels;
 use superframe::{State, Taken};
 use type_lines::Types;
 
 // What was noted last.
-#[derive(Drop)]
+#[derive(Clone, Copy)]
 pub struct Noted {
     pub types: Types,
     pub labels: Labels,
 }
 
-#[derive(Drop)]
+#[derive(Clone, Copy)]
 pub struct Heard {
     pub noted: Noted,
     pub fault: Fault,
@@ -30,13 +30,13 @@ fn unheard(noted: Noted) -> Heard {
         noted,
         fault: Fault {
             file: 48,
-            error: libc::EIO as u32,
+            error: streams::EIO,
         },
     }
 }
 
 // Of superframe k, from 1, which was taken from a state. A line has at most 80 characters, and there are 32 at most of each sort.
-pub fn hear(fds: [i32; 53], noted: Noted, k: u32, before: State, taken: Taken) -> Heard {
+pub fn hear(opened: &Opened, noted: Noted, k: u32, before: State, taken: Taken) -> Heard {
     if taken.number != 0 {
         return Heard {
             noted,
@@ -64,6 +64,6 @@ pub fn hear(fds: [i32; 53], noted: Noted, k: u32, before: State, taken: Taken) -
     let types = typed.noted;
     let labels = labelled.noted;
     let next = Noted { types, labels };
-    let fault = files::write(fds, 48, &lines, placed.end);
+    let fault = files::write(opened, 48, &lines, placed.end);
     Heard { noted: next, fault }
 }

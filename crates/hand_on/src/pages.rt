@@ -1,9 +1,16 @@
 // The sound, the marks and the words of up to 64 superframes, before they are written: file f of the first 32 has the 16,384 bytes from 16384 f on,
 // and the words stand behind them.
-ghost use Rattle.std.specs.Prelude.{◌<◌, ◌≤◌};
+ghost use Rattle.std.specs.Prelude.{◌≡◌, ◌<◌, ◌≤◌, length};
 
 use crate::files;
-use crate::files::Fault;
+use crate::files::{Fault, Opened};
+
+// Pages in which nothing stands. Their contract gives only the length, which lending them needs.
+pub(crate) fn blank() -> [u8; 532480]
+    ensures { 532480 ≡ length result }
+{
+    [0; 532480]
+}
 
 // The bytes of superframe n, from 0, in all 32 parts; false where they find no room.
 fn put_taken(pages: &mut [u8], n: usize, samples: &[i16], marks: &[u8]) -> bool
@@ -60,20 +67,20 @@ pub fn put(pages: &mut [u8], k: u32, lost: bool, samples: &[i16], marks: &[u8]) 
     }
     Fault {
         file: 0,
-        error: libc::EIO as u32,
+        error: streams::EIO,
     }
 }
 
 // A file's part of the pages, so many bytes from its start.
-fn write_part(fds: [i32; 53], file: u8, pages: &[u8], length: usize) -> Fault {
+fn write_part(opened: &Opened, file: u8, pages: &[u8], length: usize) -> Fault {
     let start = 16384 * file as usize;
     if pages.len() < start {
         return Fault {
             file,
-            error: libc::EIO as u32,
+            error: streams::EIO,
         };
     }
-    files::write(fds, file, &pages[start..], length)
+    files::write(opened, file, &pages[start..], length)
 }
 
 // How many bytes n superframes have in a file of sound, or in one of marks.
@@ -86,13 +93,13 @@ fn share(file: u8, n: usize) -> usize
     128 * n
 }
 
-fn write_parts(fds: [i32; 53], pages: &[u8], n: usize) -> Fault
+fn write_parts(opened: &Opened, pages: &[u8], n: usize) -> Fault
     requires { n ≤ 64 }
 {
     let mut file: u8 = 0;
     while file < 32 {
         let length = share(file, n);
-        let fault = write_part(fds, file, pages, length);
+        let fault = write_part(opened, file, pages, length);
         if fault.error != 0 {
             return fault;
         }
@@ -101,29 +108,29 @@ fn write_parts(fds: [i32; 53], pages: &[u8], n: usize) -> Fault
     files::fine()
 }
 
-fn write_words(fds: [i32; 53], pages: &[u8], end: usize) -> Fault {
+fn write_words(opened: &Opened, pages: &[u8], end: usize) -> Fault {
     if pages.len() < 524288 {
         return Fault {
             file: 49,
-            error: libc::EIO as u32,
+            error: streams::EIO,
         };
     }
     if end < 524288 {
         return Fault {
             file: 49,
-            error: libc::EIO as u32,
+            error: streams::EIO,
         };
     }
-    files::write(fds, 49, &pages[524288..], end - 524288)
+    files::write(opened, 49, &pages[524288..], end - 524288)
 }
 
 // Writes n superframes, whose words end at a place.
-pub(crate) fn write(fds: [i32; 53], pages: &[u8], n: usize, end: usize) -> Fault
+pub(crate) fn write(opened: &Opened, pages: &[u8], n: usize, end: usize) -> Fault
     requires { n ≤ 64 }
 {
-    let fault = write_parts(fds, pages, n);
+    let fault = write_parts(opened, pages, n);
     if fault.error != 0 {
         return fault;
     }
-    write_words(fds, pages, end)
+    write_words(opened, pages, end)
 }

@@ -1,10 +1,10 @@
 // The label tracks of the sixteen programmes, each as its last step left it. Lines are rare, 50 superframes apart at least, and are written when
 // they come.
 use crate::files;
-use crate::files::Fault;
+use crate::files::{Fault, Opened};
 use stretches::{Open, Stepped};
 
-#[derive(Drop)]
+#[derive(Clone, Copy)]
 pub struct Tracks {
     pub tracks: [Stepped; 16],
     pub fault: Fault,
@@ -27,7 +27,7 @@ fn kinds_of(q: usize, lost: bool, marks: &[u8]) -> [u8; 64] {
 }
 
 // Superframe k, from 0.
-pub fn step(fds: [i32; 53], tracks: [Stepped; 16], k: u32, lost: bool, marks: &[u8]) -> Tracks {
+pub fn step(opened: &Opened, tracks: [Stepped; 16], k: u32, lost: bool, marks: &[u8]) -> Tracks {
     let mut all = tracks;
     let mut q: u8 = 0;
     while q < 16 {
@@ -36,7 +36,7 @@ pub fn step(fds: [i32; 53], tracks: [Stepped; 16], k: u32, lost: bool, marks: &[
         let track = all[q as usize];
         let last = track.last;
         let stepped = stretches::step(&mut lines, 0, last, k, kinds);
-        let fault = files::write(fds, 32 + q, &lines, stepped.end);
+        let fault = files::write(opened, 32 + q, &lines, stepped.end);
         if fault.error != 0 {
             return Tracks { tracks: all, fault };
         }
@@ -48,14 +48,14 @@ pub fn step(fds: [i32; 53], tracks: [Stepped; 16], k: u32, lost: bool, marks: &[
 }
 
 // Behind the last superframe.
-pub fn finish(fds: [i32; 53], tracks: [Stepped; 16]) -> Fault {
+pub fn finish(opened: &Opened, tracks: [Stepped; 16]) -> Fault {
     let mut q: u8 = 0;
     while q < 16 {
         let mut line = [0u8; 256];
         let track = tracks[q as usize];
         let last = track.last;
         let end = stretches::finish(&mut line, 0, last);
-        let fault = files::write(fds, 32 + q, &line, end);
+        let fault = files::write(opened, 32 + q, &line, end);
         if fault.error != 0 {
             return fault;
         }

@@ -3,9 +3,10 @@
 
 use ending::Ended;
 use reel::HeaderRead;
+use std::io::{Stderr, Stdin, Stdout};
 use tally::Totals;
 
-#[derive(Drop)]
+#[derive(Clone, Copy)]
 struct Counted {
     totals: Totals,
     // of a read that failed, else 0
@@ -13,13 +14,14 @@ struct Counted {
 }
 
 // The whole superframes that come, at most as many as the header promises.
-fn totals_of(count: u32) -> Counted {
+fn totals_of(from: Stdin, watched: Stderr, count: u32) -> Counted {
+    let mut from = from;
     let mut totals = Totals::none();
     let mut error: u32 = 0;
     let mut done: u32 = 0;
     while done < count {
         let mut superframe = [0u8; 5120];
-        let filled = streams::fill(0, &mut superframe);
+        let filled = streams::fill(&mut from, &mut superframe);
         if filled.n < 5120 {
             error = filled.error;
             break;
@@ -27,9 +29,9 @@ fn totals_of(count: u32) -> Counted {
         let stepped = totals.step(&superframe);
         totals = stepped.next;
         done += 1;
-        streams::show(done, count);
+        streams::show(watched, done, count);
     }
-    streams::wipe(done);
+    streams::wipe(watched, done);
     Counted {
         totals: totals,
         error: error,
@@ -37,10 +39,11 @@ fn totals_of(count: u32) -> Counted {
 }
 
 // Writes the listing, behind which nothing is left but how it ended.
-fn write_listing(header: HeaderRead, totals: Totals, ended: Ended) -> Ended {
+fn write_listing(to: Stdout, header: HeaderRead, totals: Totals, ended: Ended) -> Ended {
+    let mut to = to;
     let mut out = [0u8; 192];
     let placed = listing_text::put_listing(&mut out, 0, header, totals);
-    let error = streams::write_first(1, &out, placed.end);
+    let error = streams::write_first(&mut to, &out, placed.end);
     if error != 0 {
         return Ended::NotWritten(error);
     }
@@ -48,33 +51,35 @@ fn write_listing(header: HeaderRead, totals: Totals, ended: Ended) -> Ended {
 }
 
 // With a count of 0 nothing more is read.
-fn list_superframes(count: u32, offset: u32) -> Counted {
+fn list_superframes(rt: HostRuntime, count: u32, offset: u32) -> Counted {
+    let mut from = rt.stdin();
     if count == 0 {
-        return totals_of(0);
+        return totals_of(from, rt.stderr(), 0);
     }
-    let error = input::skip_to(offset);
+    let error = input::skip_to(&mut from, offset);
     if error != 0 {
         return Counted {
             totals: Totals::none(),
             error: error,
         };
     }
-    totals_of(count)
+    totals_of(from, rt.stderr(), count)
 }
 
-fn list_reel(header: HeaderRead, count: u32, offset: u32) -> Ended {
-    let counted = list_superframes(count, offset);
+fn list_reel(rt: HostRuntime, header: HeaderRead, count: u32, offset: u32) -> Ended {
+    let counted = list_superframes(rt, count, offset);
     let error = counted.error;
     if error != 0 {
         return Ended::NotRead(error);
     }
     let totals = counted.totals;
     let ended = ending::ending_of(count, totals.superframes);
-    write_listing(header, totals, ended)
+    write_listing(rt.stdout(), header, totals, ended)
 }
 
-fn list() -> Ended {
-    let start = input::header();
+fn list(rt: HostRuntime) -> Ended {
+    let mut from = rt.stdin();
+    let start = input::header(&mut from);
     let error = start.error;
     if error != 0 {
         return Ended::NotRead(error);
@@ -82,11 +87,11 @@ fn list() -> Ended {
     let header = start.header;
     let fault = start.fault;
     match header {
-        HeaderRead::NoHeader => write_listing(header, Totals::none(), fault),
-        HeaderRead::Reel { count, offset } => list_reel(header, count, offset),
+        HeaderRead::NoHeader => write_listing(rt.stdout(), header, Totals::none(), fault),
+        HeaderRead::Reel { count, offset } => list_reel(rt, header, count, offset),
     }
 }
 
-fn main() {
-    ending::say(list());
+fn main(rt: HostRuntime) {
+    ending::say(&rt, list(rt));
 }

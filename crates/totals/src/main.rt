@@ -6,9 +6,10 @@
 use ending::Ended;
 use reel::HeaderRead;
 use running::Running;
+use std::io::{Stderr, Stdin, Stdout};
 use superframe::State;
 
-#[derive(Drop)]
+#[derive(Clone, Copy)]
 struct Counted {
     totals: Running,
     // of a read that failed, else 0
@@ -24,31 +25,33 @@ fn after(state: State, radius: u8, superframe: &[u8; 5120]) -> State {
 }
 
 // The whole superframes that come, at most as many as the header promises.
-fn totals_of(count: u32, radius: u8) -> Counted {
+fn totals_of(from: Stdin, watched: Stderr, count: u32, radius: u8) -> Counted {
+    let mut from = from;
     let mut state = State::fresh();
     let mut error: u32 = 0;
     let mut done: u32 = 0;
     while done < count {
         let mut superframe = [0u8; 5120];
-        let filled = streams::fill(0, &mut superframe);
+        let filled = streams::fill(&mut from, &mut superframe);
         if filled.n < 5120 {
             error = filled.error;
             break;
         }
         state = after(state, radius, &superframe);
         done += 1;
-        streams::show(done, count);
+        streams::show(watched, done, count);
     }
-    streams::wipe(done);
+    streams::wipe(watched, done);
     let totals = state.totals;
     Counted { totals, error }
 }
 
 // Writes the totals, behind which nothing is left but how it ended. Their text has at most 1,057 characters (`totals-whole` in totals_text).
-fn write_totals(header: HeaderRead, totals: Running, ended: Ended) -> Ended {
+fn write_totals(to: Stdout, header: HeaderRead, totals: Running, ended: Ended) -> Ended {
+    let mut to = to;
     let mut out = [0u8; 1088];
     let placed = totals_text::put_totals(&mut out, 0, header, totals);
-    let error = streams::write_first(1, &out, placed.end);
+    let error = streams::write_first(&mut to, &out, placed.end);
     if error != 0 {
         return Ended::NotWritten(error);
     }
@@ -56,22 +59,23 @@ fn write_totals(header: HeaderRead, totals: Running, ended: Ended) -> Ended {
 }
 
 // With a count of 0 nothing more is read.
-fn count_superframes(count: u32, offset: u32, radius: u8) -> Counted {
+fn count_superframes(rt: HostRuntime, count: u32, offset: u32, radius: u8) -> Counted {
+    let mut from = rt.stdin();
     if count == 0 {
-        return totals_of(0, radius);
+        return totals_of(from, rt.stderr(), 0, radius);
     }
-    let error = input::skip_to(offset);
+    let error = input::skip_to(&mut from, offset);
     if error != 0 {
         return Counted {
             totals: Running::none(),
             error,
         };
     }
-    totals_of(count, radius)
+    totals_of(from, rt.stderr(), count, radius)
 }
 
-fn count_reel(header: HeaderRead, count: u32, offset: u32, radius: u8) -> Ended {
-    let counted = count_superframes(count, offset, radius);
+fn count_reel(rt: HostRuntime, header: HeaderRead, count: u32, offset: u32, radius: u8) -> Ended {
+    let counted = count_superframes(rt, count, offset, radius);
     let error = counted.error;
     if error != 0 {
         return Ended::NotRead(error);
@@ -79,15 +83,16 @@ fn count_reel(header: HeaderRead, count: u32, offset: u32, radius: u8) -> Ended 
     let totals = counted.totals;
     let given = totals.taken as u64 + totals.lost as u64;
     let ended = ending::ending_of(count, given);
-    write_totals(header, totals, ended)
+    write_totals(rt.stdout(), header, totals, ended)
 }
 
-fn write() -> Ended {
-    let radius = input::radius_at(2);
+fn write(rt: HostRuntime) -> Ended {
+    let radius = input::radius_at(&rt, 2);
     if radius == 0 {
         return Ended::NoRadius;
     }
-    let start = input::header();
+    let mut from = rt.stdin();
+    let start = input::header(&mut from);
     let error = start.error;
     if error != 0 {
         return Ended::NotRead(error);
@@ -95,11 +100,11 @@ fn write() -> Ended {
     let header = start.header;
     let fault = start.fault;
     match header {
-        HeaderRead::NoHeader => write_totals(header, Running::none(), fault),
-        HeaderRead::Reel { count, offset } => count_reel(header, count, offset, radius),
+        HeaderRead::NoHeader => write_totals(rt.stdout(), header, Running::none(), fault),
+        HeaderRead::Reel { count, offset } => count_reel(rt, header, count, offset, radius),
     }
 }
 
-fn main() {
-    ending::say(write());
+fn main(rt: HostRuntime) {
+    ending::say(&rt, write(rt));
 }
