@@ -2,7 +2,6 @@
 use borrow.Author.Tests.{eq-eqb, ne_eqb}
 use Rattle.bits.specs.Letters.{letters}
 use Rattle.listing_text.specs.Listing.{ending}
-use borrow.Author.Rules.{rules}
 use Rattle.listing_text.proofs.put_ending.Goals as goal
 
 pub returns-then-promised-read : goal.returns-then-promised-read

@@ -1,7 +1,6 @@
 -- `listing_text::put_line` meets its contract. Assumes nothing.
 use Rattle.text.proofs.Pages.{put_then}
 use Rattle.listing_text.specs.Listing.{line}
-use borrow.Author.Rules.{rules}
 use Rattle.listing_text.proofs.put_line.Goals as goal
 
 pub returns : goal.returns

@@ -5,7 +5,6 @@ use Rattle.reel.specs.Header.{header_answer}
 use Rattle.reel.specs.declared.HeaderRead.{HeaderRead}
 use Rattle.bits.specs.Letters.{letters}
 use Rattle.listing_text.specs.Listing.{listing}
-use borrow.Author.Rules.{rules}
 use Rattle.listing_text.proofs.put_lines.Goals as goal
 
 pub returns-in-NoHeader : goal.returns-in-NoHeader

@@ -2,7 +2,6 @@
 use Rattle.bits.specs.Letters.{letters}
 use Rattle.text.proofs.Pages.{put_then}
 use Rattle.listing_text.specs.Listing.{seven_lines}
-use borrow.Author.Rules.{rules}
 use Rattle.listing_text.proofs.put_totals.Goals as goal
 
 pub returns : goal.returns

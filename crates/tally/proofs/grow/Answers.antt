@@ -3,7 +3,6 @@ use mathlib.Core.Path.{sym}
 use native.Mathlib.Nat.{min-eq_left, min-eq_right}
 use native.Mathlib.Omega.{arith}
 use Rattle.tally.specs.Totals.{grown}
-use borrow.Author.Rules.{rules}
 use Rattle.tally.proofs.grow.Goals as goal
 
 pub returns-then-total-by : goal.returns-then-total-by

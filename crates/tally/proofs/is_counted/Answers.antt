@@ -1,6 +1,5 @@
 -- `tally::is_counted` meets its contract. Assumes nothing.
 use borrow.Author.Tests.{eq-eqb, ne_eqb}
-use borrow.Author.Rules.{rules}
 use Rattle.tally.proofs.is_counted.Goals as goal
 
 pub returns-then-number-eq0 : goal.returns-then-number-eq0

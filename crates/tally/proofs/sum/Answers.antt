@@ -1,8 +1,7 @@
 -- `tally::sum` meets its contract: after p turns the first p are added. Assumes nothing.
-use Prim.Native.Nat.{◌+◌, ◌-◌, ◌*◌, ◌≤◌}
 use mathlib.Core.Path.{◌≡◌, refl, ◌∙◌}
 use native.Mathlib.Omega.{arith}
-use lib.ListN.{length, take}
+use lib.ListN.{length}
 use Rattle.tally.specs.Totals.{sum_of}
 use Rattle.tally.proofs.Sums.{sum_more, sum-all}
 use borrow.Author.Rules.{rules}

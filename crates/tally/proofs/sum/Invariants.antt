@@ -1,11 +1,8 @@
 -- `tally::sum` meets its contract: after p turns the first p are added. Assumes nothing.
-use Prim.Native.Nat.{◌+◌, ◌-◌, ◌*◌, ◌≤◌}
-use mathlib.Core.Path.{◌≡◌, refl, ◌∙◌}
-use native.Mathlib.Omega.{arith}
-use lib.ListN.{length, take}
+use Prim.Native.Nat.{◌-◌, ◌*◌, ◌≤◌}
+use mathlib.Core.Path.{◌≡◌}
+use lib.ListN.{take}
 use Rattle.tally.specs.Totals.{sum_of}
-use Rattle.tally.proofs.Sums.{sum_more, sum-all}
-use borrow.Author.Rules.{rules}
 use Rattle.tally.proofs.sum.Given as goal
 
 abbrev pub invariant-loop-p : goal.invariant-loop-p

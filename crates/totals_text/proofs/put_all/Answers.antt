@@ -2,7 +2,6 @@
 use Rattle.bits.specs.Letters.{letters}
 use Rattle.text.proofs.Pages.{put_then}
 use Rattle.totals_text.specs.Totals.{totals_lines}
-use borrow.Author.Rules.{rules}
 use Rattle.totals_text.proofs.put_all.Goals as goal
 
 pub returns : goal.returns

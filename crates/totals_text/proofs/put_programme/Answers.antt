@@ -2,7 +2,6 @@
 use Rattle.bits.specs.Letters.{letters}
 use Rattle.text.proofs.Pages.{put_then}
 use Rattle.totals_text.specs.Totals.{counts_line}
-use borrow.Author.Rules.{rules}
 use Rattle.totals_text.proofs.put_programme.Goals as goal
 
 pub returns : goal.returns

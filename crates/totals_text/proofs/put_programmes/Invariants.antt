@@ -1,13 +1,10 @@
 -- `totals_text::put_programmes` meets its contract. Assumes nothing.
-use Prim.Native.Nat.{ℕ, ◌-◌, ◌≤◌}
-use mathlib.Core.Path.{◌≡◌, refl, ap, ◌∙◌}
-use native.Mathlib.Omega.{arith}
+use Prim.Native.Nat.{◌-◌, ◌≤◌}
+use mathlib.Core.Path.{◌≡◌}
 use lib.ListN.{length}
 use Rattle.text.specs.Page.{page, put_text}
 use Rattle.text_rows.specs.Turns.{in_turn}
-use Rattle.text_rows.proofs.Turns.{turn_more}
 use Rattle.totals_text.specs.Totals.{programme_line}
-use borrow.Author.Rules.{rules}
 use Rattle.totals_text.proofs.put_programmes.Given as goal
 
 abbrev pub invariant-loop-q : goal.invariant-loop-q

@@ -1,6 +1,5 @@
 -- `superframe::state::factors_in_range` meets its contract. Assumes nothing.
 use mathlib.Core.Path.{sym, ◌∙◌}
-use borrow.Author.Rules.{rules}
 use Rattle.superframe.proofs.state.factors_in_range.Goals as goal
 
 pub returns-then-all_below : goal.returns-then-all_below

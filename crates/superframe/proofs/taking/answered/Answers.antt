@@ -4,7 +4,6 @@ use Rattle.beside.proofs.Carried.{programmes-given, six-given}
 use Rattle.running.specs.Running.{with_taken, taken_step}
 use Rattle.running.proofs.More.{goes_on}
 use Rattle.superframe.specs.Take.{beside_with}
-use borrow.Author.Rules.{rules}
 use Rattle.superframe.proofs.taking.answered.Goals as goal
 
 pub returns : goal.returns

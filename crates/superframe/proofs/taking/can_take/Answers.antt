@@ -1,6 +1,5 @@
 -- `superframe::taking::can_take` meets its contract. Assumes nothing.
 use mathlib.Core.Path.{sym, ◌∙◌}
-use borrow.Author.Rules.{rules}
 use Rattle.superframe.specs.Take.{takable}
 use Rattle.superframe.proofs.taking.can_take.Goals as goal
 

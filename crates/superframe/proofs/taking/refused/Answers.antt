@@ -1,7 +1,6 @@
 -- `superframe::taking::refused` meets its contract. Assumes nothing.
 use Rattle.tape.specs.Tape.{refused_counts}
 use Rattle.superframe.specs.Take.{no_programmes, refused_with}
-use borrow.Author.Rules.{rules}
 use Rattle.superframe.proofs.taking.refused.Goals as goal
 
 pub returns : goal.returns

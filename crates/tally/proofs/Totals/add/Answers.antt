@@ -2,11 +2,9 @@
 use Prim.Native.Nat.{ℕ}
 use mathlib.Core.Path.{◌≡◌, refl, sym, ap, ◌∙◌}
 use mathlib.Core.Bool.{cond}
-use mathlib.Core.Logic.{⊎_elim}
-use borrow.Author.Tests.{eq-eqb, ne_eqb, not-true, not-false}
+use borrow.Author.Tests.{eq-eqb, ne_eqb}
 use lib.Dec.{eqb}
 use Rattle.tally.specs.Totals.{grown, with_counted, added_to}
-use borrow.Author.Rules.{rules}
 use Rattle.tally.proofs.Totals.add.Goals as goal
 use Rattle.tally.proofs.Totals.add.Goals.{then-number-eq3, else-number-eq3}
 

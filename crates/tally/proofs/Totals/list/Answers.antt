@@ -1,7 +1,6 @@
 -- `tally::Totals::list` meets its contract. Assumes nothing.
 use borrow.Author.Tests.{eq-eqb, ne_eqb}
 use Rattle.tally.specs.Totals.{listed_with}
-use borrow.Author.Rules.{rules}
 use Rattle.tally.proofs.Totals.list.Goals as goal
 
 pub returns-then-radius-eq-ORDINARY : goal.returns-then-radius-eq-ORDINARY

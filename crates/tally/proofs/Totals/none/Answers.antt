@@ -1,7 +1,6 @@
 -- `tally::Totals::none` meets its contract. Assumes nothing.
 use mathlib.Core.Path.{refl}
 use Rattle.tally.specs.Totals.{no_totals}
-use borrow.Author.Rules.{rules}
 use Rattle.tally.proofs.Totals.none.Goals as goal
 
 pub returns : goal.returns

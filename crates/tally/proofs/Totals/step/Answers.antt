@@ -1,7 +1,6 @@
 -- `tally::Totals::step` meets its contract. Assumes nothing.
 use mathlib.Core.Path.{ap, ◌∙◌}
 use Rattle.tally.specs.Totals.{added_to, step_of}
-use borrow.Author.Rules.{rules}
 use Rattle.tally.proofs.Totals.step.Goals as goal
 
 pub returns : goal.returns

@@ -1,6 +1,5 @@
 -- `superframe::state::State::fresh` meets its contract. Assumes nothing.
 use Rattle.superframe.specs.State.{missing}
-use borrow.Author.Rules.{rules}
 use Rattle.superframe.proofs.state.State.fresh.Goals as goal
 
 pub returns : goal.returns

@@ -1,10 +1,8 @@
 -- `superframe::state::State::in_range` meets its contract. Assumes nothing.
 use mathlib.Core.Path.{◌≡◌, sym, ap, ◌∙◌}
 use mathlib.Core.Bool.{true}
-use borrow.Author.Tests.{not-true, not-false}
 use Rattle.service.specs.Service.{in_range}
 use Rattle.superframe.specs.State.{factors_of, service_of, factors_in_range, state_in_range}
-use borrow.Author.Rules.{rules}
 use Rattle.superframe.proofs.state.State.in_range.Goals as goal
 
 pub returns-then-not-factors_in_range : goal.returns-then-not-factors_in_range

@@ -1,12 +1,10 @@
 -- `superframe::state::State::lose` meets its contract. Assumes nothing.
 use mathlib.Core.Path.{◌≡◌, sym, ◌∙◌}
 use mathlib.Core.Bool.{true}
-use borrow.Author.Tests.{not-true, not-false}
 use Rattle.running.specs.Running.{has_room, with_lost, lost_step}
 use Rattle.running.proofs.More.{stepped-free}
 use Rattle.superframe.specs.State.{missing, state_in_range, lost_with}
 use Rattle.superframe.proofs.Parts.{running-in-range}
-use borrow.Author.Rules.{rules}
 use Rattle.superframe.proofs.state.State.lose.Goals as goal
 
 pub returns-then-not-in_range : goal.returns-then-not-in_range

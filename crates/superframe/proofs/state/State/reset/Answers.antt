@@ -1,8 +1,6 @@
 -- `superframe::state::State::reset` meets its contract. Assumes nothing.
 use mathlib.Core.Path.{sym, ◌∙◌}
-use borrow.Author.Tests.{not-true, not-false}
 use Rattle.superframe.specs.State.{reset_with}
-use borrow.Author.Rules.{rules}
 use Rattle.superframe.proofs.state.State.reset.Goals as goal
 
 pub returns-then-not-in_range : goal.returns-then-not-in_range

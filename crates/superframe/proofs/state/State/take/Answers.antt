@@ -1,7 +1,6 @@
 -- `superframe::state::State::take` meets its contract. Assumes nothing.
 use mathlib.Core.Path.{◌≡◌, refl, sym, ap, ap₂, ◌∙◌}
 use mathlib.Core.Bool.{true}
-use borrow.Author.Tests.{not-true, not-false}
 use lib.ListN.{length}
 use Rattle.bits.proofs.Tests.{both_left, both_right}
 use Rattle.reading.specs.Reading.{is_radius}
@@ -14,7 +13,6 @@ use Rattle.superframe.specs.Take.{takable, take_number, beside_with, refused_wit
 use Rattle.superframe.specs.declared.state.Lost.{Lost}
 use Rattle.superframe.proofs.Parts.{running-in-range}
 use Rattle.superframe.proofs.Took.{lost-next, good-fill, lost-fill, refused-took, answered-took}
-use borrow.Author.Rules.{rules}
 use Rattle.superframe.proofs.state.State.take.Goals as goal
 
 pub returns-then-not-lengths_fit : goal.returns-then-not-lengths_fit

@@ -1,9 +1,7 @@
 -- `superframe::state::State::take_service` meets its contract. Assumes nothing.
 use mathlib.Core.Path.{sym, ◌∙◌}
-use borrow.Author.Tests.{not-true, not-false}
 use Rattle.service.specs.Service.{refused_service}
 use Rattle.superframe.specs.State.{serviced_with}
-use borrow.Author.Rules.{rules}
 use Rattle.superframe.proofs.state.State.take_service.Goals as goal
 
 pub returns-then-not-in_range : goal.returns-then-not-in_range
