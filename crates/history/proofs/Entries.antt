@@ -1,7 +1,7 @@
 -- Every entry of the lists that a call leaves, in document 01's numbers.
 --     call-stands       THE ENTRY of a side of programme q in frame f: from the block that carries it, at the factor that the state brought
 -- Assumes nothing.
-use Prim.Native.Nat.{ℕ, ◌+◌, ◌-◌, ◌≤◌}
+use Prim.Native.Nat.{ℕ, ◌-◌, ◌≤◌}
 use lib.IntN.{pos}
 use Rattle.frame.specs.Read.{block_of}
 use Rattle.tape.specs.Tape.{frame_at}

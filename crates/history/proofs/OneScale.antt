@@ -17,22 +17,19 @@ use Rattle.bits.specs.Bits.{bit_at}
 use Rattle.bits.specs.Digits.{value}
 use Rattle.bits.proofs.Table.{length-tab, get_or-tab, tab-ext}
 use Rattle.code.specs.Words.{distance}
-use Rattle.reading.specs.Search.{reading}
 use Rattle.reading.specs.Reading.{largest_radius}
-use Rattle.block.specs.Read.{said, protected, handed_on}
+use Rattle.block.specs.Read.{handed_on}
 use Rattle.block.specs.Demand.{IsBlock}
 use Rattle.block_codes.specs.Codes.{code_at}
 use Rattle.nearest.specs.Extra.{information}
-use Rattle.frame.specs.Frame.{sync_word, service_in, place_of, deinterleave, Belongs}
-use Rattle.frame.specs.Read.{wrong_sync, most_wrong, service_read, block_of}
-use Rattle.frame.specs.declared.Letter.{Letter}
+use Rattle.frame.specs.Frame.{sync_word, place_of, deinterleave}
+use Rattle.frame.specs.Read.{wrong_sync, most_wrong, block_of}
 use Rattle.frame.proofs.Places.{place-once}
-use Rattle.block.specs.Mark.{mark_of}
-use Rattle.tape.specs.Tape.{frame_at, letter_of, wrong_at, wrong_bits, synced, block_in, reading_in, block_mark}
+use Rattle.tape.specs.Tape.{frame_at, letter_of, wrong_at, wrong_bits, synced, block_in, reading_in}
 use Rattle.tape.specs.Document.{Carries, a_first, a_second, b-first, b-second}
 use Rattle.tape.proofs.Tape.{block-there, block-bits, reading-there}
 use Rattle.tape.proofs.Wrong.{sum-ext}
-use Rattle.beside.specs.Beside.{extra_bit, extra_bits, service_bit, service_bits, six_of, sync_of, six_and_sync}
+use Rattle.beside.specs.Beside.{extra_bit, extra_bits, service_bit, service_bits, six_and_sync}
 use Rattle.beside.specs.Document.{extra_number, ScaleBit, OnlyScale}
 use Rattle.beside.proofs.Carried.{frame-bit, block-bit, extra-there, service-there}
 use Rattle.history.proofs.Same as blocks

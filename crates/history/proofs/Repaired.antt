@@ -6,26 +6,23 @@
 -- Assumes nothing.
 use mathlib.Core.Path.{◌≡◌, sym, ap, ◌∙◌}
 use mathlib.Core.List.{List, ◌++◌}
-use Prim.Native.Nat.{ℕ, ◌+◌, ◌-◌, ◌*◌, ◌/◌, ◌%◌, ◌<◌, ◌≤◌}
+use Prim.Native.Nat.{ℕ, ◌/◌, ◌%◌, ◌<◌, ◌≤◌}
 use native.Mathlib.Omega.{arith}
-use borrow.Author.Tests.{ltb-true, ltb-false, le-leb, lt-leb}
-use lib.Dec.{ltb}
+use borrow.Author.Tests.{le-leb, lt-leb}
 use lib.IntN.{ℤ, pos}
 use lib.ListN.{length, get_or, take, drop, length-append, length-drop}
 use lib.Seq.{ext_get_or, get_or-take, get_or-drop, drop_at}
 use Rattle.bits.specs.Bits.{ones}
-use Rattle.bits.proofs.Tests.{either_way}
 use Rattle.bits.proofs.Digits.{below-append}
 use Rattle.bits.proofs.Bits.{bits_below}
 use Rattle.code.specs.Generators.{block_generator}
 use Rattle.code.specs.Words.{encode}
 use Rattle.sample.specs.Sample.{sample_of}
-use Rattle.sample.specs.Pattern.{bits_code}
 use Rattle.reading.specs.Reading.{largest_radius}
 use Rattle.block.specs.Layout.{sound, rest, block_with}
 use Rattle.block.specs.Read.{said_with, handed_on}
 use Rattle.block.specs.Demand.{Sent}
-use Rattle.block.proofs.Places.{length-sound, length_rest, below-sound, below_rest, length-63, length-block, at-sound, length-fourteen, fourteen-at}
+use Rattle.block.proofs.Places.{length-sound, length_rest, below-sound, below_rest, length-63, length-block, at-sound}
 use Rattle.block.proofs.Demand.{heard, third_at}
 use Rattle.block_codes.specs.Codes.{code_at, codes_at, codes_of}
 use Rattle.block_codes.specs.declared.BlockCodes.{BlockCodes}

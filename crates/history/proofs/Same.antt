@@ -17,7 +17,7 @@ use Rattle.sample.specs.Pattern.{bits_code}
 use Rattle.reading.specs.Reading.{handed, largest_radius}
 use Rattle.reading.specs.Search.{reading}
 use Rattle.block.specs.Layout.{fourteen, code_place}
-use Rattle.block.specs.Read.{Said, said, protected, handed_on}
+use Rattle.block.specs.Read.{said, protected, handed_on}
 use Rattle.block.specs.Demand.{IsBlock}
 use Rattle.block.proofs.Places.{length-fourteen, fourteen-at}
 use Rattle.block.proofs.Demand.{read_meets, second_at}
