@@ -9,7 +9,7 @@
 use mathlib.Core.Path.{◌≡◌, sym, ap, ap₂, ◌∙◌}
 use mathlib.Core.Logic.{◌≢◌}
 use mathlib.Core.List.{List}
-use Prim.Native.Nat.{ℕ, ◌+◌, ◌-◌, ◌*◌, ◌/◌, ◌%◌, ◌<◌, ◌≤◌}
+use Prim.Native.Nat.{ℕ, ◌+◌, ◌-◌, ◌*◌, ◌/◌, ◌%◌, ◌≤◌}
 use native.Mathlib.Omega.{arith}
 use borrow.Author.Tests.{eq-eqb, ne_eqb}
 use lib.ListN.{length, get_or, take}
@@ -17,13 +17,12 @@ use lib.Seq.{get_or-drop}
 use Rattle.bits.specs.Bits.{bits_of, byte_at}
 use Rattle.bits.proofs.Bits.{bits_of-at}
 use Rattle.bits.proofs.Table.{length-tab, get_or-tab}
-use Rattle.nearest.specs.declared.Extra.{Extra}
 use Rattle.frame.specs.Frame.{service_in}
 use Rattle.frame.specs.Read.{service_read, block_of}
-use Rattle.tape.specs.Tape.{frame_at, block_in}
+use Rattle.tape.specs.Tape.{frame_at}
 use Rattle.tape.specs.Document.{entry, channel_of, Carries, a_first, a_second, b-first, b-second}
 use Rattle.tape.proofs.Carried.{carried}
-use Rattle.beside.specs.Beside.{extra_bit, extra_bits, extra_of, factor_or, side_of, factor_read, number_at, programmes_of, service_bit, service_bits, six_of, sync_of, six_and_sync}
+use Rattle.beside.specs.Beside.{extra_bit, extra_bits, extra_of, factor_or, side_of, factor_read, number_at, programmes_of, service_bit, service_bits, sync_of, six_and_sync}
 use Rattle.beside.specs.Document.{missing, extra_number}
 use Rattle.beside.proofs.Carried.{byte-there, six-there}
 

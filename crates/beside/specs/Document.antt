@@ -6,7 +6,7 @@
 --     scale_bits sf q        those 42 bits, as received
 --     ReadAs p q l r n      programme q is handed out with factors l and r and with n places (document 02, P4: "hand out that number too")
 --     Unread p q            programme q is handed out with number 5: both factors are missing, and there is no number of places
-use Rattle.std.specs.Prelude.{ℕ, ◌+◌, ◌-◌, ◌*◌, ◌<◌, ◌≤◌, ◌≡◌, List, length, take}
+use Rattle.std.specs.Prelude.{ℕ, ◌+◌, ◌-◌, ◌*◌, ◌≤◌, ◌≡◌, List, length, take}
 use Rattle.bits.specs.Bits.{bit_at}
 use Rattle.frame.specs.Frame.{place_of}
 use Rattle.tape.specs.Document.{entry, channel_of, Carries}

@@ -3,14 +3,13 @@
 --     mark-kind         what a block counts as by its mark is what its reading is
 -- Assumes nothing.
 use mathlib.Core.Path.{◌≡◌, refl, sym, ap, ◌∙◌}
-use mathlib.Core.Bool.{Bool, true, false, cond}
 use Prim.Native.Nat.{ℕ}
 use native.Mathlib.Omega.{arith}
 use borrow.Author.Tests.{eqb-true, eqb-false, eq-eqb, ne_eqb}
 use lib.Dec.{eqb}
 use Rattle.bits.proofs.Tests.{either_way}
 use Rattle.block.specs.Read.{Said, clean, mended, bad}
-use Rattle.block.specs.Mark.{mark_of, kind_of, counted_as, MendedButThree, Marked}
+use Rattle.block.specs.Mark.{mark_of, kind_of, counted_as, Marked}
 
 never : {A : Type 0} → ◌≡◌ {A = ℕ} 0 1 → A
 never e = absurd (omega arith)

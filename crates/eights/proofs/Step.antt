@@ -7,10 +7,10 @@ use mathlib.Core.List.{List, ◌++◌}
 use Prim.Native.Nat.{ℕ, ◌+◌, ◌*◌, ◌/◌, ◌%◌, ◌^◌, ◌<◌}
 use native.Mathlib.Nat.{mod-lt, mod-eq_of_lt}
 use native.Mathlib.Omega.{arith}
-use lib.Bits.{bit_xor, xor_lt}
+use lib.Bits.{xor_lt}
 use lib.ListN.{length, get_or}
 use lib.Pow.{pow_pos, pow-add, high, low, shr_lt}
-use Rattle.bits.specs.Digits.{value, digits, Below}
+use Rattle.bits.specs.Digits.{value, digits}
 use Rattle.bits.proofs.Digits.{length_digits, below-digits, digits_append, digits_low, value-below}
 use Rattle.remainder.specs.Polynomial.{◌⊕◌}
 use Rattle.remainder.specs.Remainder.{divide, check_bits}

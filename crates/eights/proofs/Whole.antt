@@ -10,7 +10,7 @@ use mathlib.Core.List.{List, [], ◌∷◌, ◌++◌, map}
 use Prim.Native.Nat.{ℕ, zero, suc, ◌+◌, ◌-◌, ◌*◌, ◌/◌, ◌%◌, ◌^◌, ◌<◌, ◌≤◌}
 use native.Mathlib.Nat.{mod-lt, mod-eq_of_lt, div-eq_of_lt, mul-mod_left}
 use native.Mathlib.Omega.{arith}
-use lib.ListN.{length, get_or, take, drop, length-take, length-drop, get_or-map}
+use lib.ListN.{length, get_or, take, drop, length-drop, get_or-map}
 use lib.Pow.{pow_pos, pow_mono, shr_lt, shl-shr}
 use lib.Seq.{ext_get_or, get_or-take, get_or-drop, take-add, take_all, length-take-le}
 use Rattle.bits.specs.Bits.{eight_at, byte_at}
@@ -22,7 +22,7 @@ use Rattle.remainder.specs.Polynomial.{zeros}
 use Rattle.remainder.specs.Remainder.{step, divide, remainder, check_bits}
 use Rattle.remainder.proofs.Division.{length-remainder, below-remainder, remainder-short, remainder-zeros, remainder-on}
 use Rattle.remainder.proofs.Register.{step-odd}
-use Rattle.eights.specs.Eights.{remainders_of, step_by, eights, rows, word_by, row_by, check_by}
+use Rattle.eights.specs.Eights.{remainders_of, eights, rows, word_by, row_by, check_by}
 use Rattle.eights.proofs.Step.{eight-digits, eight-small}
 
 abbrev odd : List ℕ → List ℕ

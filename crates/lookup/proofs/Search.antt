@@ -11,7 +11,7 @@
 --                       the answers, by the remainder's ones, by what was found and by the radius
 --     even-low, odd_low     whether the remainder's ones are even in number, as the code counts them
 -- Assumes nothing.
-use mathlib.Core.Path.{◌≡◌, refl, sym, ap, ◌∙◌, subst}
+use mathlib.Core.Path.{◌≡◌, sym, ap, ◌∙◌, subst}
 use mathlib.Core.Logic.{⊎_elim}
 use mathlib.Core.Bool.{Bool, true, false, cond}
 use mathlib.Core.List.{List, [], ◌∷◌}

@@ -11,7 +11,6 @@
 --     Labelling o k b new out to out' r     what noting labels answers and leaves
 use Rattle.std.specs.Prelude.{ℕ, zero, suc, ◌+◌, ◌*◌, ◌/◌, ◌%◌, ◌≡◌, Bool, true, false, cond, List, [], ◌∷◌, ◌++◌, eqb, ltb, get_or, replicate}
 use Rattle.bits.specs.Letters.{letters}
-use Rattle.text.specs.Digits.{decimal}
 use Rattle.text.specs.Page.{page}
 use Rattle.text.specs.Entry.{entered, entered_text}
 use Rattle.text_rows.specs.Rows.{spelled, hex_byte}

@@ -27,7 +27,7 @@ use Rattle.code.specs.Words.{distance}
 use Rattle.code.proofs.Distance.{distance_self, distance-changed}
 use Rattle.scale.specs.Word.{scale_word, written_scale}
 use Rattle.scale.proofs.Word.{below-scale_word}
-use Rattle.nearest.specs.Reading.{thrice, away, read_scale, scale_answer}
+use Rattle.nearest.specs.Reading.{away, read_scale, scale_answer}
 use Rattle.nearest.specs.Document.{sent, differs, Other, Nearest, Tie}
 use Rattle.nearest.proofs.Fewest.{Single, Shared, single-read, shared-read}
 use Rattle.nearest.proofs.Search.{single-or-shared}

@@ -9,7 +9,6 @@ use mathlib.Core.List.{List, [], ◌∷◌, map}
 use Prim.Native.Nat.{ℕ, zero, suc}
 use Rattle.bits.specs.Digits.{value}
 use Rattle.remainder.specs.Columns.{columns}
-use Rattle.code.specs.Generators.{block_generator}
 use Rattle.code.proofs.Numbers.{block-coefficients}
 use Rattle.reading.specs.Wrong.{column_numbers}
 

@@ -61,6 +61,7 @@ fn ones_of(byte: u8) -> u8
     count
 }
 
+#[tactic(auto, unfolding(crate::specs::Byte::read_byte, crate::specs::Byte::even))]
 pub fn read(byte: u8) -> ByteRead
     ensures { read_answer result ≡ read_byte byte }
 {

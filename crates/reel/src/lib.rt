@@ -30,6 +30,7 @@ fn number_at(bytes: &[u8], at: usize) -> u32
         + bits::wide(bytes[at + 3])
 }
 
+#[tactic(auto, unfolding(crate::specs::Header::good_header))]
 fn is_header(count: u32, offset: u32, summary: u32, entries: u32) -> bool
     ensures { result ≡ good_header count offset summary entries }
 {
@@ -45,6 +46,7 @@ fn is_header(count: u32, offset: u32, summary: u32, entries: u32) -> bool
     entries == 0
 }
 
+#[tactic(auto, unfolding(crate::specs::Header::header_of))]
 pub fn read_header(bytes: &[u8]) -> HeaderRead
     ensures { header_answer result ≡ header_of bytes.now }
 {

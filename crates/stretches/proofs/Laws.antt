@@ -3,14 +3,14 @@
 --     from_more                 one pair more
 --     met-last, met-ended       what a pair does to the last stretch alone, and which lines it adds
 -- Assumes nothing.
-use mathlib.Core.Path.{◌≡◌, refl, sym, ap, ap₂, ◌∙◌}
-use mathlib.Core.Bool.{Bool, true, false, cond}
-use mathlib.Core.List.{List, [], ◌∷◌, ◌++◌, append_assoc, append-nil}
-use Prim.Native.Nat.{ℕ, zero, suc, ◌+◌, ◌-◌, ◌*◌, ◌/◌, ◌%◌, ◌^◌, ◌<◌, ◌≤◌}
-use native.Mathlib.Nat.{add-zero, add-suc, pow-zero, pow-succ', div-one, div-div-eq-div-mul}
+use mathlib.Core.Path.{◌≡◌, refl, sym, ap, ◌∙◌}
+use mathlib.Core.Bool.{true, false}
+use mathlib.Core.List.{List, [], ◌∷◌, ◌++◌, append-nil}
+use Prim.Native.Nat.{ℕ, suc, ◌+◌, ◌-◌, ◌<◌, ◌≤◌}
+use native.Mathlib.Nat.{add-zero}
 use native.Mathlib.Numerals.{add-one}
 use native.Mathlib.Omega.{arith}
-use borrow.Author.Tests.{ltb-true, ltb-false, lt-ltb, le-ltb, eq-eqb}
+use borrow.Author.Tests.{ltb-true, ltb-false, lt-ltb, le-ltb}
 use lib.Dec.{ltb, eqb}
 use lib.ListN.{length, get_or, take, drop}
 use lib.Seq.{take-suc}
@@ -21,7 +21,7 @@ use Rattle.label.specs.declared.Stretch.{Stretch}
 use Rattle.stretches.specs.declared.Open.{Open}
 use Rattle.stretches.specs.declared.Open.TheVariants as O
 use Rattle.stretches.specs.Stretches.{rest, fresh, grow, met, from, opened, counted}
-use Rattle.label.specs.Lines.{line, lines}
+use Rattle.label.specs.Lines.{lines}
 
 sums : (n l : ℕ) → suc n + l ≡ n + suc l
 sums n l = omega arith

@@ -1,8 +1,6 @@
 -- The short names without their padding are the names that document 01 prints ("Service groups"): `bare-names`. Assumes nothing.
 use mathlib.Core.Path.{◌≡◌, refl}
-use mathlib.Core.List.{List, map}
-use Prim.Native.Nat.{ℕ}
-use lib.ListN.{replicate, take}
+use mathlib.Core.List.{map}
 use Rattle.bits.specs.Letters.{letters}
 use Rattle.bits.specs.Table.{tabulate}
 use Rattle.programme.specs.Names.{names, padded, name_of, name_for}

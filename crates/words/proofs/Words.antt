@@ -10,24 +10,23 @@
 -- Assumes nothing.
 use mathlib.Core.Path.{◌≡◌, refl, sym, ap, ap₂, ◌∙◌, subst}
 use mathlib.Core.Bool.{Bool, true, cond}
-use mathlib.Core.List.{List, [], ◌∷◌, ◌++◌}
-use mathlib.Core.Option.{Option, none, some}
-use Prim.Native.Nat.{ℕ, zero, suc, ◌+◌, ◌-◌, ◌*◌, ◌/◌, ◌%◌, ◌^◌, ◌<◌, ◌≤◌}
+use mathlib.Core.List.{List, ◌∷◌, ◌++◌}
+use mathlib.Core.Option.{Option}
+use Prim.Native.Nat.{ℕ, suc, ◌+◌, ◌-◌, ◌*◌, ◌/◌, ◌%◌, ◌^◌, ◌<◌, ◌≤◌}
 use native.Mathlib.Nat.{zero-add, mod-lt, mod-eq_of_lt, mod_self, div_self}
 use native.Mathlib.Omega.{arith}
 use borrow.Author.Tests.{lt-ltb}
 use lib.Bits.{bit_xor, xor_lt}
-use lib.Dec.{ltb}
 use lib.IntN.{ℤ}
 use lib.ListN.{length, get_or, take, drop, set, length-drop, replicate-append-replicate}
 use lib.Pow.{pow_pos, pow-lt}
 use lib.Seq.{ext_get_or, get_or-take, get_or-drop, length-take-le, set_at, take-append-le, drop-append-le, drop-append-add, drop-drop}
 use Rattle.bits.specs.Table.{tabulate}
-use Rattle.bits.specs.Bits.{bits_of, eight_at, byte_at, are_bits}
+use Rattle.bits.specs.Bits.{eight_at, byte_at, are_bits}
 use Rattle.bits.specs.Digits.{value, digits, Below}
 use Rattle.bits.proofs.Table.{length-tab, get_or-tab, tab-ext, tab-add}
 use Rattle.bits.proofs.Bits.{bits_below, bit_below}
-use Rattle.bits.proofs.Digits.{below-take, length_digits, below-digits, digits_append, digits-cons, digits_low, digits-zero, digits_value, take-digits, drop-digits, value-append, value-digits, value-tab, value-tab-below}
+use Rattle.bits.proofs.Digits.{below-take, length_digits, below-digits, digits-cons, digits_low, digits-zero, digits_value, take-digits, drop-digits, value-append, value-digits, value-tab, value-tab-below}
 use Rattle.remainder.specs.Polynomial.{◌⊕◌, zeros}
 use Rattle.remainder.specs.Remainder.{remainder}
 use Rattle.remainder.proofs.Sum.{length-zeros}
@@ -44,7 +43,7 @@ use Rattle.reading.proofs.Answered.{turn_at, answer-there, answered-within, answ
 use Rattle.reading.proofs.Radius.{chosen-wide, chosen-small}
 use Rattle.sample.specs.Pattern.{signed_of, bits_code}
 use Rattle.block.specs.Layout.{fourteen}
-use Rattle.block.specs.Read.{Said, said, protected, handed_on}
+use Rattle.block.specs.Read.{said, protected, handed_on}
 use Rattle.block_codes.specs.Codes.{code_at, codes_at}
 use Rattle.code.proofs.Smallest.{block_size}
 use Rattle.eights.specs.Eights.{remainders_of, word_by}

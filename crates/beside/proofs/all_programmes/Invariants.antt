@@ -1,14 +1,9 @@
 -- `beside::all_programmes` meets its contract. Assumes nothing.
-use mathlib.Core.Path.{◌≡◌, refl, ap, ◌∙◌}
-use Prim.Native.Nat.{◌+◌, ◌-◌, ◌*◌, ◌≤◌}
-use native.Mathlib.Omega.{arith}
-use lib.ListN.{length, take, set, length-set}
+use mathlib.Core.Path.{◌≡◌}
+use Prim.Native.Nat.{◌-◌, ◌*◌, ◌≤◌}
+use lib.ListN.{length, take}
 use Rattle.bits.specs.Table.{tabulate}
-use Rattle.bits.proofs.Table.{tab-more, tab-done}
-use Rattle.nearest.specs.declared.Extra.{Extra}
-use Rattle.beside.specs.Beside.{factor_or, factor_read, number_at, places_at, word_at, programmes_of}
-use Rattle.beside.proofs.Carried.{left_there, right_there}
-use borrow.Author.Rules.{rules}
+use Rattle.beside.specs.Beside.{factor_read, number_at, places_at, word_at}
 use Rattle.beside.proofs.all_programmes.Given as goal
 
 abbrev pub invariant-loop-q : goal.invariant-loop-q

@@ -1,7 +1,6 @@
 -- `beside::extra_at` meets its contract. Assumes nothing.
 use mathlib.Core.Path.{◌∙◌}
 use Rattle.beside.proofs.Carried.{extra-there}
-use borrow.Author.Rules.{rules}
 use Rattle.beside.proofs.extra_at.Goals as goal
 
 pub returns : goal.returns

@@ -1,12 +1,9 @@
 -- `beside::extra_bits` meets its contract. Assumes nothing.
-use mathlib.Core.Path.{◌≡◌, refl}
+use mathlib.Core.Path.{◌≡◌}
 use Prim.Native.Nat.{◌-◌, ◌≤◌}
-use native.Mathlib.Omega.{arith}
 use lib.ListN.{length, take}
 use Rattle.bits.specs.Table.{tabulate}
-use Rattle.bits.proofs.Table.{tab-more, tab-done}
-use Rattle.beside.specs.Beside.{extra_bit, extra_bits}
-use borrow.Author.Rules.{rules}
+use Rattle.beside.specs.Beside.{extra_bit}
 use Rattle.beside.proofs.extra_bits.Given as goal
 
 abbrev pub invariant-loop-f : goal.invariant-loop-f

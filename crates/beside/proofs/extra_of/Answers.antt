@@ -2,7 +2,6 @@
 use mathlib.Core.Path.{ap, ◌∙◌}
 use Rattle.nearest.specs.Extra.{extra_answer}
 use Rattle.beside.specs.Beside.{extra_of}
-use borrow.Author.Rules.{rules}
 use Rattle.beside.proofs.extra_of.Goals as goal
 
 pub returns : goal.returns

@@ -1,7 +1,6 @@
 -- `beside::programmes_of` meets its contract. Assumes nothing.
 use borrow.Author.Tests.{eq-eqb, ne_eqb}
 use Rattle.beside.specs.Beside.{refused_programmes, programmes_answer}
-use borrow.Author.Rules.{rules}
 use Rattle.beside.proofs.programmes_of.Goals as goal
 
 pub returns-then-sf-ne5120 : goal.returns-then-sf-ne5120

@@ -1,13 +1,9 @@
 -- `beside::service_bits` meets its contract. Assumes nothing.
-use mathlib.Core.Path.{◌≡◌, refl, ◌∙◌}
+use mathlib.Core.Path.{◌≡◌}
 use Prim.Native.Nat.{◌-◌, ◌≤◌}
-use native.Mathlib.Omega.{arith}
 use lib.ListN.{length, take}
 use Rattle.bits.specs.Table.{tabulate}
-use Rattle.bits.proofs.Table.{tab-more, tab-done}
-use Rattle.beside.specs.Beside.{service_bit, service_bits}
-use Rattle.beside.proofs.Carried.{service-there}
-use borrow.Author.Rules.{rules}
+use Rattle.beside.specs.Beside.{service_bit}
 use Rattle.beside.proofs.service_bits.Given as goal
 
 abbrev pub invariant-loop-f : goal.invariant-loop-f

@@ -1,7 +1,6 @@
 -- `beside::six_and_sync` meets its contract. Assumes nothing.
 use borrow.Author.Tests.{eq-eqb, ne_eqb}
 use Rattle.beside.specs.Beside.{six_and_sync, refused_six, six_answer}
-use borrow.Author.Rules.{rules}
 use Rattle.beside.proofs.six_and_sync.Goals as goal
 
 pub returns-then-sf-ne5120 : goal.returns-then-sf-ne5120

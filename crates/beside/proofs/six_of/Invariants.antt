@@ -1,13 +1,9 @@
 -- `beside::six_of` meets its contract. Assumes nothing.
-use mathlib.Core.Path.{◌≡◌, refl, ◌∙◌}
+use mathlib.Core.Path.{◌≡◌}
 use Prim.Native.Nat.{◌-◌, ◌*◌, ◌≤◌}
-use native.Mathlib.Omega.{arith}
 use lib.ListN.{length, take}
 use Rattle.bits.specs.Table.{tabulate}
-use Rattle.bits.proofs.Table.{tab-more, tab-done}
 use Rattle.bits.specs.Bits.{byte_at}
-use Rattle.beside.proofs.Carried.{byte-there, six-there}
-use borrow.Author.Rules.{rules}
 use Rattle.beside.proofs.six_of.Given as goal
 
 abbrev pub invariant-loop-i : goal.invariant-loop-i

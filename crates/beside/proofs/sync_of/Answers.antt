@@ -1,8 +1,7 @@
 -- `beside::sync_of` meets its contract. Assumes nothing.
 use mathlib.Core.Path.{◌≡◌, refl, sym}
-use Prim.Native.Nat.{◌-◌, ◌≤◌}
 use native.Mathlib.Omega.{arith}
-use lib.ListN.{length, take, drop, length-drop}
+use lib.ListN.{length, drop, length-drop}
 use lib.Seq.{get_or-drop}
 use Rattle.bits.proofs.Table.{toward, arrived}
 use Rattle.beside.specs.Beside.{sync_of}

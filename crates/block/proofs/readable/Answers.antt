@@ -1,6 +1,5 @@
 -- `block::readable` meets its contract. Assumes nothing.
-use mathlib.Core.Path.{◌≡◌, sym, ◌∙◌}
-use borrow.Author.Rules.{rules}
+use mathlib.Core.Path.{sym, ◌∙◌}
 use Rattle.block.specs.Read.{is_readable}
 use Rattle.block.proofs.readable.Goals as goal
 

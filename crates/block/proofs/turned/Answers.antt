@@ -4,7 +4,6 @@ use Prim.Native.Nat.{◌+◌, ◌%◌}
 use native.Mathlib.Omega.{arith}
 use lib.ListN.{get_or, set}
 use Rattle.reading.specs.Wrong.{turn}
-use borrow.Author.Rules.{rules}
 use Rattle.block.proofs.turned.Goals as goal
 
 pub returns : goal.returns

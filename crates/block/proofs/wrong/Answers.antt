@@ -1,6 +1,5 @@
 -- `block::wrong` meets its contract: with the true tables the search gives the wrong places. Assumes nothing.
 use mathlib.Core.Path.{◌≡◌, ◌∙◌}
-use borrow.Author.Rules.{rules}
 use Rattle.reading.specs.Wrong.{column_numbers, answer}
 use Rattle.reading.proofs.Radius.{chosen-wide, chosen-small}
 use Rattle.pairs.specs.Pairs.{pair_table, place_table, start_table}

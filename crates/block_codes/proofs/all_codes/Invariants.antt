@@ -1,15 +1,9 @@
 -- `block_codes::all_codes` meets its contract. Assumes nothing.
-use mathlib.Core.Path.{◌≡◌, refl, ap, ◌∙◌}
+use mathlib.Core.Path.{◌≡◌}
 use Prim.Native.Nat.{◌-◌, ◌≤◌}
-use native.Mathlib.Omega.{arith}
 use lib.ListN.{length, take}
-use mir.Syntax.{w16}
-use mir.ValLaws.{to_z-of_z}
 use Rattle.bits.specs.Table.{tabulate}
-use Rattle.bits.proofs.Table.{tab-more, tab-done}
-use Rattle.sample.specs.Pattern.{signed_of, bits_code}
-use Rattle.block_codes.specs.Codes.{code_at, codes_at}
-use borrow.Author.Rules.{rules}
+use Rattle.block_codes.specs.Codes.{code_at}
 use Rattle.block_codes.proofs.all_codes.Given as goal
 
 abbrev pub invariant-loop-channel : goal.invariant-loop-channel

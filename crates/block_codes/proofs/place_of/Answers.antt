@@ -2,7 +2,6 @@
 use native.Mathlib.Omega.{arith}
 use borrow.Author.Tests.{lt-ltb, le-ltb}
 use Rattle.block.specs.Layout.{code_place}
-use borrow.Author.Rules.{rules}
 use Rattle.block_codes.proofs.place_of.Goals as goal
 
 pub returns-then-k-lt11 : goal.returns-then-k-lt11

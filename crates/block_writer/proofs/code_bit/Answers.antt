@@ -8,7 +8,6 @@ use mir.Syntax.{w16}
 use mir.ValLaws.{to_z-of_z}
 use Rattle.bits.proofs.Digits.{get_or-digits}
 use Rattle.sample.specs.Pattern.{code_bits, pattern_of}
-use borrow.Author.Rules.{rules}
 use Rattle.block_writer.proofs.code_bit.Goals as goal
 
 -- bit k of a code by a shift

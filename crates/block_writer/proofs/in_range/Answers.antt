@@ -3,7 +3,6 @@ use mathlib.Core.Path.{◌≡◌, sym, ◌∙◌}
 use mathlib.Core.Bool.{true, false}
 use Rattle.bits.specs.Table.{every}
 use Rattle.sample.specs.Sample.{is_code}
-use borrow.Author.Rules.{rules}
 use Rattle.block_writer.proofs.in_range.Goals as goal
 
 pub returns-then-are_codes : goal.returns-then-are_codes

@@ -1,12 +1,10 @@
 -- `block_writer::write` meets its contract. Assumes nothing.
 use mathlib.Core.Path.{◌≡◌, sym, ◌∙◌}
 use mathlib.Core.Bool.{true, false, ◌&&◌}
-use borrow.Author.Tests.{not-true, not-false}
 use Rattle.bits.specs.Table.{every}
 use Rattle.bits.specs.Bits.{are_bits}
 use Rattle.sample.specs.Sample.{is_code}
 use Rattle.block_writer.specs.Written.{written_block}
-use borrow.Author.Rules.{rules}
 use Rattle.block_writer.proofs.write.Goals as goal
 
 pub returns-then-not-in_range : goal.returns-then-not-in_range

@@ -2,7 +2,6 @@
 use mathlib.Core.Path.{ap, ◌∙◌}
 use mathlib.Core.List.{List}
 use Prim.Native.Nat.{ℕ}
-use borrow.Author.Rules.{rules}
 use Rattle.eights.specs.Eights.{check_by}
 use Rattle.eights.proofs.Whole.{check-remainder}
 use Rattle.code.specs.Generators.{block_generator}

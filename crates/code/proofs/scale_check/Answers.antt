@@ -1,7 +1,6 @@
 -- `code::scale_check` meets its contract: the number's digits are the generator's coefficients. Assumes nothing.
 use mathlib.Core.Path.{◌∙◌}
 use native.Mathlib.Omega.{arith}
-use borrow.Author.Rules.{rules}
 use Rattle.remainder.proofs.Register.{check-number}
 use Rattle.code.specs.Generators.{scale_generator}
 use Rattle.code.proofs.Numbers.{scale-number}

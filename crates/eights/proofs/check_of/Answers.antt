@@ -1,7 +1,6 @@
 -- `eights::check_of` meets its contract. Assumes nothing.
 use mathlib.Core.Path.{ap, ◌∙◌}
 use Prim.Native.Nat.{ℕ, ◌*◌, ◌^◌}
-use borrow.Author.Rules.{rules}
 use Rattle.eights.specs.Eights.{word_by, check_by}
 use Rattle.eights.proofs.check_of.Goals as goal
 

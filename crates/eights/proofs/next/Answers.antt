@@ -1,5 +1,4 @@
 -- `eights::next` meets its contract. Assumes nothing.
-use borrow.Author.Rules.{rules}
 use Rattle.eights.specs.Eights.{step_by}
 use Rattle.eights.proofs.next.Goals as goal
 

@@ -2,7 +2,6 @@
 use native.Mathlib.Omega.{arith}
 use Rattle.text.proofs.Entry.{entered-short, entered-whole}
 use Rattle.folder.specs.Files.{about_text}
-use borrow.Author.Rules.{rules}
 use Rattle.folder.proofs.put_about.Goals as goal
 
 pub returns-then-placed-ne0 : goal.returns-then-placed-ne0

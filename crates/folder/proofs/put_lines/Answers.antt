@@ -2,7 +2,6 @@
 use Rattle.bits.specs.Letters.{letters}
 use Rattle.text.proofs.Pages.{put_then}
 use Rattle.folder.specs.Files.{about_text}
-use borrow.Author.Rules.{rules}
 use Rattle.folder.proofs.put_lines.Goals as goal
 
 pub returns : goal.returns

@@ -2,7 +2,6 @@
 use borrow.Author.Tests.{lt-ltb, le-ltb}
 use Rattle.bits.specs.Letters.{letters}
 use Rattle.folder.specs.Files.{file_name}
-use borrow.Author.Rules.{rules}
 use Rattle.folder.proofs.put_name.Goals as goal
 
 pub returns-then-file-lt16 : goal.returns-then-file-lt16

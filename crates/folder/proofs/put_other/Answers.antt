@@ -2,7 +2,6 @@
 use borrow.Author.Tests.{eq-eqb, ne_eqb}
 use Rattle.bits.specs.Letters.{letters}
 use Rattle.folder.specs.Files.{other_name}
-use borrow.Author.Rules.{rules}
 use Rattle.folder.proofs.put_other.Goals as goal
 
 pub returns-then-file-eq48 : goal.returns-then-file-eq48

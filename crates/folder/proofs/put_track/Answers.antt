@@ -2,7 +2,6 @@
 use mathlib.Core.List.{[], ◌∷◌}
 use Rattle.text.proofs.Pages.{put_then}
 use Rattle.folder.specs.Files.{track_name}
-use borrow.Author.Rules.{rules}
 use Rattle.folder.proofs.put_track.Goals as goal
 
 pub returns : goal.returns

@@ -1,7 +1,6 @@
 -- `frame::block_of` meets its contract. Assumes nothing.
 use borrow.Author.Tests.{eq-eqb, ne_eqb, lt-ltb, le-ltb}
 use Rattle.frame.specs.Read.{gathered_of}
-use borrow.Author.Rules.{rules}
 use Rattle.frame.proofs.block_of.Goals as goal
 
 pub returns-then-n-ne40 : goal.returns-then-n-ne40

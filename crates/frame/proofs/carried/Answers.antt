@@ -1,6 +1,5 @@
 -- `frame::carried` meets its contract. Assumes nothing.
 use Rattle.frame.specs.Frame.{service_in}
-use borrow.Author.Rules.{rules}
 use Rattle.frame.proofs.carried.Goals as goal
 
 pub returns-in-A : goal.returns-in-A

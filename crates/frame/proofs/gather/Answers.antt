@@ -1,12 +1,11 @@
 -- `frame::gather` meets its contract. Assumes nothing.
-use mathlib.Core.Path.{◌≡◌, sym, ◌∙◌}
+use mathlib.Core.Path.{sym, ◌∙◌}
 use native.Mathlib.Omega.{arith}
 use borrow.Author.Tests.{lt-ltb}
 use Rattle.bits.proofs.Table.{tab-ext}
 use Rattle.bits.proofs.Bits.{bits_of-at}
 use Rattle.frame.specs.Frame.{place_of, deinterleave}
 use Rattle.frame.specs.Read.{block_of}
-use borrow.Author.Rules.{rules}
 use Rattle.frame.proofs.gather.Goals as goal
 
 pub returns : goal.returns

@@ -3,7 +3,6 @@ use native.Mathlib.Omega.{arith}
 use borrow.Author.Tests.{eq-eqb, ne_eqb, le-leb, lt-leb}
 use lib.ListN.{length}
 use Rattle.frame.specs.Read.{wrong_sync, most_wrong, read_frame}
-use borrow.Author.Rules.{rules}
 use Rattle.frame.proofs.read.Goals as goal
 
 pub returns-then-bytes-ne40 : goal.returns-then-bytes-ne40

@@ -2,7 +2,6 @@
 use mathlib.Core.Path.{ap, ◌∙◌}
 use Rattle.frame.specs.Frame.{service_in}
 use Rattle.frame.specs.Read.{service_read}
-use borrow.Author.Rules.{rules}
 use Rattle.frame.proofs.service_of.Goals as goal
 
 pub returns : goal.returns

@@ -1,17 +1,9 @@
 -- `frame::sync_errors` meets its contract: the wrong bits counted so far. Assumes nothing.
-use mathlib.Core.Path.{◌≡◌, refl, sym, ◌∙◌}
-use Prim.Native.Nat.{ℕ, ◌+◌, ◌-◌, ◌%◌, ◌<◌, ◌≤◌}
-use native.Mathlib.Omega.{arith}
+use mathlib.Core.Path.{◌≡◌}
+use Prim.Native.Nat.{◌+◌, ◌-◌, ◌%◌, ◌≤◌}
 use lib.ListN.{get_or}
 use Rattle.bits.specs.Table.{tabulate}
 use Rattle.bits.specs.Bits.{bit_at, ones}
-use Rattle.bits.proofs.Bits.{bit_at-below, bit_below}
-use Rattle.bits.proofs.Ones.{ones-more}
-use Rattle.frame.specs.Read.{wrong_sync}
-use Rattle.frame.proofs.Sync.{below-sync, wrong-counted}
-use Rattle.code.specs.Words.{distance}
-use Rattle.frame.specs.Frame.{sync_word}
-use borrow.Author.Rules.{rules}
 use Rattle.frame.proofs.sync_errors.Given as goal
 
 abbrev pub invariant-loop-k : goal.invariant-loop-k

@@ -1,6 +1,5 @@
 -- `frame::sync_of` meets its contract. Assumes nothing.
 use Rattle.frame.specs.Frame.{sync_word}
-use borrow.Author.Rules.{rules}
 use Rattle.frame.proofs.sync_of.Goals as goal
 
 pub returns-in-A : goal.returns-in-A

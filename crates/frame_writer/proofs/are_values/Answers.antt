@@ -3,7 +3,6 @@ use mathlib.Core.Bool.{and-true}
 use Rattle.bits.specs.Table.{every}
 use Rattle.bits.specs.Bits.{are_bits}
 use Rattle.frame_writer.specs.Write.{good_values}
-use borrow.Author.Rules.{rules}
 use Rattle.frame_writer.proofs.are_values.Goals as goal
 
 pub returns : goal.returns

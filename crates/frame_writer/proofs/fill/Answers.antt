@@ -1,8 +1,8 @@
 -- `frame_writer::fill` meets its contract: the first i bytes are made. Assumes nothing.
 use mathlib.Core.Path.{◌≡◌, refl}
-use Prim.Native.Nat.{◌-◌, ◌*◌, ◌/◌, ◌≤◌}
+use Prim.Native.Nat.{◌*◌, ◌/◌}
 use native.Mathlib.Omega.{arith}
-use lib.ListN.{length, take}
+use lib.ListN.{length}
 use Rattle.bits.specs.Table.{tabulate}
 use Rattle.bits.specs.Bits.{byte_at, bytes_of}
 use Rattle.bits.proofs.Table.{tab-more, tab-done}

@@ -1,12 +1,9 @@
 -- `frame_writer::fill` meets its contract: the first i bytes are made. Assumes nothing.
-use mathlib.Core.Path.{◌≡◌, refl}
-use Prim.Native.Nat.{◌-◌, ◌*◌, ◌/◌, ◌≤◌}
-use native.Mathlib.Omega.{arith}
+use mathlib.Core.Path.{◌≡◌}
+use Prim.Native.Nat.{◌-◌, ◌*◌, ◌≤◌}
 use lib.ListN.{length, take}
 use Rattle.bits.specs.Table.{tabulate}
-use Rattle.bits.specs.Bits.{byte_at, bytes_of}
-use Rattle.bits.proofs.Table.{tab-more, tab-done}
-use borrow.Author.Rules.{rules}
+use Rattle.bits.specs.Bits.{byte_at}
 use Rattle.frame_writer.proofs.fill.Given as goal
 
 abbrev pub invariant-loop-i : goal.invariant-loop-i

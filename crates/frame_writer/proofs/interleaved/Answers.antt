@@ -1,8 +1,8 @@
 -- `frame_writer::interleaved` meets its contract: the first 2 j bits stand. Assumes nothing.
 use mathlib.Core.Path.{◌≡◌, sym}
-use Prim.Native.Nat.{ℕ, ◌+◌, ◌-◌, ◌*◌, ◌≤◌}
+use Prim.Native.Nat.{ℕ, ◌+◌, ◌*◌}
 use native.Mathlib.Omega.{arith}
-use lib.ListN.{length, get_or, take, set, length-set}
+use lib.ListN.{length, get_or, set, length-set}
 use Rattle.bits.proofs.Table.{toward, arrived}
 use Rattle.frame.specs.Frame.{interleave}
 use Rattle.frame.proofs.Interleave.{length-interleave, interleave-even, interleave-odd}

@@ -1,12 +1,8 @@
 -- `frame_writer::interleaved` meets its contract: the first 2 j bits stand. Assumes nothing.
-use mathlib.Core.Path.{◌≡◌, sym}
-use Prim.Native.Nat.{ℕ, ◌+◌, ◌-◌, ◌*◌, ◌≤◌}
-use native.Mathlib.Omega.{arith}
-use lib.ListN.{length, get_or, take, set, length-set}
-use Rattle.bits.proofs.Table.{toward, arrived}
+use mathlib.Core.Path.{◌≡◌}
+use Prim.Native.Nat.{◌-◌, ◌*◌, ◌≤◌}
+use lib.ListN.{length, take}
 use Rattle.frame.specs.Frame.{interleave}
-use Rattle.frame.proofs.Interleave.{length-interleave, interleave-even, interleave-odd}
-use borrow.Author.Rules.{rules}
 use Rattle.frame_writer.proofs.interleaved.Given as goal
 
 abbrev pub invariant-loop-j : goal.invariant-loop-j

@@ -1,13 +1,8 @@
 -- `frame_writer::joined` meets its contract: the first k bits stand. Assumes nothing.
-use mathlib.Core.Path.{◌≡◌, sym, ap, ◌∙◌}
-use mathlib.Core.List.{List, ◌∷◌, ◌++◌}
-use mathlib.Core.Logic.{⊎_elim}
-use Prim.Native.Nat.{ℕ, ◌-◌, ◌≤◌}
-use native.Mathlib.Omega.{arith}
-use lib.ListN.{length, take, length-set}
-use Rattle.bits.proofs.Table.{toward, arrived}
-use Rattle.frame.proofs.Parts.{parts, length-parts, at-sync, at-service, at_front, at_back}
-use borrow.Author.Rules.{rules}
+use mathlib.Core.Path.{◌≡◌}
+use mathlib.Core.List.{◌∷◌, ◌++◌}
+use Prim.Native.Nat.{◌-◌, ◌≤◌}
+use lib.ListN.{length, take}
 use Rattle.frame_writer.proofs.joined.Given as goal
 
 abbrev pub invariant-loop-k : goal.invariant-loop-k

@@ -4,7 +4,6 @@ use native.Mathlib.Omega.{arith}
 use Rattle.bits.specs.Bits.{bytes_of}
 use Rattle.frame.specs.Frame.{frame_bits, frame_bytes}
 use Rattle.frame_writer.proofs.Writing.{number-zero, refusal, success}
-use borrow.Author.Rules.{rules}
 use Rattle.frame_writer.proofs.write.Goals as goal
 
 pub returns-then-number-ne0 : goal.returns-then-number-ne0

@@ -2,7 +2,6 @@
 use mathlib.Core.Path.{sym, ◌∙◌}
 use native.Mathlib.Omega.{arith}
 use Rattle.frame_writer.proofs.Writing.{number_size, number-value, number-none}
-use borrow.Author.Rules.{rules}
 use Rattle.frame_writer.proofs.write_number.Goals as goal
 
 pub returns-then-size-ne40 : goal.returns-then-size-ne40

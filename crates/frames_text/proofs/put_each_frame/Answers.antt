@@ -1,10 +1,9 @@
 -- `frames_text::put_each_frame` meets its contract. Assumes nothing.
-use Prim.Native.Nat.{ℕ, ◌+◌, ◌-◌, ◌≤◌}
+use Prim.Native.Nat.{ℕ, ◌+◌}
 use mathlib.Core.Path.{◌≡◌, refl, ap, ◌∙◌}
 use mathlib.Core.List.{List}
 use native.Mathlib.Omega.{arith}
 use lib.IntN.{ℤ}
-use lib.ListN.{length}
 use Rattle.text.specs.Page.{page, put_text}
 use Rattle.text.proofs.Pages.{put_then}
 use Rattle.text_rows.specs.Turns.{in_turn}

@@ -1,16 +1,10 @@
 -- `frames_text::put_each_frame` meets its contract. Assumes nothing.
-use Prim.Native.Nat.{ℕ, ◌+◌, ◌-◌, ◌≤◌}
-use mathlib.Core.Path.{◌≡◌, refl, ap, ◌∙◌}
-use mathlib.Core.List.{List}
-use native.Mathlib.Omega.{arith}
-use lib.IntN.{ℤ}
+use Prim.Native.Nat.{◌-◌, ◌≤◌}
+use mathlib.Core.Path.{◌≡◌}
 use lib.ListN.{length}
 use Rattle.text.specs.Page.{page, put_text}
-use Rattle.text.proofs.Pages.{put_then}
 use Rattle.text_rows.specs.Turns.{in_turn}
-use Rattle.frames_text.specs.Frames.{marks_line, samples_line, frame_text, frames_text}
-use Rattle.text_rows.proofs.Turns.{turn_more, part_cut}
-use borrow.Author.Rules.{rules}
+use Rattle.frames_text.specs.Frames.{frame_text}
 use Rattle.frames_text.proofs.put_each_frame.Given as goal
 
 abbrev pub invariant-loop-n : goal.invariant-loop-n

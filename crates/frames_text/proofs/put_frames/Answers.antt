@@ -2,7 +2,6 @@
 use mathlib.Core.Path.{refl}
 use borrow.Author.Tests.{eq-eqb, ne_eqb}
 use Rattle.frames_text.specs.Frames.{frames_put}
-use borrow.Author.Rules.{rules}
 use Rattle.frames_text.proofs.put_frames.Goals as goal
 
 pub returns-then-samples-ne2048 : goal.returns-then-samples-ne2048

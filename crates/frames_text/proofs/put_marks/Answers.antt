@@ -2,7 +2,6 @@
 use Rattle.bits.specs.Letters.{letters}
 use Rattle.text.proofs.Pages.{put_then}
 use Rattle.frames_text.specs.Frames.{marks_line}
-use borrow.Author.Rules.{rules}
 use Rattle.frames_text.proofs.put_marks.Goals as goal
 
 pub returns : goal.returns

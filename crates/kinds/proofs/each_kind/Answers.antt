@@ -1,10 +1,8 @@
 -- `kinds::each_kind` meets its contract: after f turns the first f kinds are there. Assumes nothing.
-use Prim.Native.Nat.{ℕ, ◌-◌, ◌≤◌}
-use mathlib.Core.Path.{◌≡◌, refl}
+use mathlib.Core.Path.{refl}
 use native.Mathlib.Omega.{arith}
-use lib.ListN.{length, take}
 use Rattle.bits.specs.Table.{tabulate}
-use Rattle.bits.proofs.Table.{tab-more, tab-none, tab-done}
+use Rattle.bits.proofs.Table.{tab-more, tab-done}
 use Rattle.kinds.specs.Kinds.{pair_kind}
 use borrow.Author.Rules.{rules}
 use Rattle.kinds.proofs.each_kind.Goals as goal

@@ -2,7 +2,6 @@
 use mathlib.Core.Path.{sym, ◌∙◌}
 use borrow.Author.Tests.{eq-eqb, ne_eqb}
 use Rattle.kinds.specs.Kinds.{kind_of}
-use borrow.Author.Rules.{rules}
 use Rattle.kinds.proofs.kind_of.Goals as goal
 
 pub returns-then-a-eq3 : goal.returns-then-a-eq3

@@ -2,7 +2,6 @@
 use mathlib.Core.Path.{refl}
 use Rattle.bits.specs.Table.{tabulate}
 use Rattle.kinds.specs.Kinds.{lost_kinds}
-use borrow.Author.Rules.{rules}
 use Rattle.kinds.proofs.lost.Goals as goal
 
 pub returns : goal.returns

@@ -1,9 +1,8 @@
 -- `kinds::of_programme` meets its contract. Assumes nothing.
-use mathlib.Core.Path.{◌≡◌, refl, sym, ap, ◌∙◌}
-use borrow.Author.Tests.{eq-eqb, ne_eqb}
+use mathlib.Core.Path.{refl, sym, ◌∙◌}
+use borrow.Author.Tests.{ne_eqb}
 use Rattle.wav_sound.proofs.Entry.{ranged}
 use Rattle.kinds.specs.Kinds.{kinds_of}
-use borrow.Author.Rules.{rules}
 use Rattle.kinds.proofs.of_programme.Goals as goal
 
 pub returns-then-number-ne0 : goal.returns-then-number-ne0

@@ -1,6 +1,5 @@
 -- `kinds::troubles` meets its contract. Assumes nothing.
 use borrow.Author.Tests.{eq-eqb, ne_eqb}
-use borrow.Author.Rules.{rules}
 use Rattle.kinds.proofs.troubles.Goals as goal
 
 pub returns-then-m-eq2 : goal.returns-then-m-eq2

@@ -1,6 +1,5 @@
 -- `label::either` meets its contract. Assumes nothing.
 use borrow.Author.Tests.{lt-ltb, le-ltb}
-use borrow.Author.Rules.{rules}
 use Rattle.label.proofs.either.Goals as goal
 
 pub returns-then-a-gt0 : goal.returns-then-a-gt0

@@ -2,7 +2,6 @@
 use mathlib.Core.Path.{refl}
 use Rattle.bits.specs.Letters.{letters}
 use Rattle.text.specs.Page.{put_text}
-use borrow.Author.Rules.{rules}
 use Rattle.label.proofs.put_comma.Goals as goal
 
 pub returns-then-before : goal.returns-then-before

@@ -4,7 +4,6 @@ use borrow.Author.Tests.{eq-eqb, ne_eqb}
 use Rattle.text.specs.Page.{put_text}
 use Rattle.text.proofs.Pages.{put_then}
 use Rattle.label.specs.Lines.{item}
-use borrow.Author.Rules.{rules}
 use Rattle.label.proofs.put_item.Goals as goal
 
 pub returns-then-n-eq0 : goal.returns-then-n-eq0

@@ -2,7 +2,6 @@
 use Rattle.bits.specs.Letters.{letters}
 use Rattle.text.proofs.Pages.{put_then}
 use Rattle.label.specs.Lines.{line}
-use borrow.Author.Rules.{rules}
 use Rattle.label.proofs.put_line.Goals as goal
 
 pub returns : goal.returns

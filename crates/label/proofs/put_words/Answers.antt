@@ -5,7 +5,6 @@ use Rattle.bits.specs.Letters.{letters}
 use Rattle.text.specs.Page.{page, put_text}
 use Rattle.text.proofs.Pages.{put_then}
 use Rattle.label.specs.Lines.{item, words}
-use borrow.Author.Rules.{rules}
 use Rattle.label.proofs.put_words.Goals as goal
 
 pub returns : goal.returns

@@ -1,15 +1,10 @@
 -- `lookup::first_in` meets its contract. The loop's invariant: what is to be found is found from the place reached on. Assumes nothing.
-use mathlib.Core.Path.{◌≡◌, refl, sym, ap, ◌∙◌}
-use mathlib.Core.Logic.{⊎_elim}
-use mathlib.Core.Bool.{Bool, cond}
-use Prim.Native.Nat.{ℕ, ◌-◌, ◌≤◌}
-use native.Mathlib.Omega.{arith}
+use mathlib.Core.Path.{◌≡◌}
+use mathlib.Core.Bool.{cond}
+use Prim.Native.Nat.{◌-◌, ◌≤◌}
 use lib.Dec.{ltb}
 use lib.ListN.{length}
-use borrow.Author.Tests.{lt-ltb, le-ltb}
-use borrow.Author.Rules.{rules}
-use Rattle.lookup.specs.Search.{first_from, first_in}
-use Rattle.lookup.proofs.Search.{here, on, over}
+use Rattle.lookup.specs.Search.{first_from}
 use Rattle.lookup.proofs.first_in.Given as goal
 
 abbrev pub invariant-loop-k : goal.invariant-loop-k

@@ -1,7 +1,5 @@
 -- `lookup::last_of` meets its contract. The loop's invariant: the last of the places passed. Assumes nothing.
 use mathlib.Core.Path.{◌≡◌, refl, ap, ◌∙◌}
-use mathlib.Core.Logic.{⊎_elim}
-use Prim.Native.Nat.{◌-◌, ◌≤◌}
 use borrow.Author.Rules.{rules}
 use Rattle.lookup.specs.Search.{last_of}
 use Rattle.lookup.proofs.Search.{last-here, last_on}

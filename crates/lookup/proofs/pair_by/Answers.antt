@@ -2,7 +2,6 @@
 use mathlib.Core.Path.{◌≡◌, sym, ap, ap₂, ◌∙◌}
 use Prim.Native.Nat.{ℕ, ◌%◌}
 use lib.ListN.{get_or}
-use borrow.Author.Rules.{rules}
 use Rattle.lookup.specs.Search.{first_in, pair_of}
 use Rattle.lookup.proofs.Search.{pair-there, pair-away}
 use Rattle.lookup.proofs.pair_by.Goals as goal

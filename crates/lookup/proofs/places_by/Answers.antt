@@ -1,10 +1,9 @@
 -- `lookup::places_by` meets its contract: the code's tests are the definition's. Assumes nothing.
-use mathlib.Core.Path.{◌≡◌, sym, ap, ◌∙◌}
+use mathlib.Core.Path.{sym, ap, ◌∙◌}
 use mathlib.Core.List.{[], ◌∷◌}
 use mathlib.Core.Option.{some}
-use Prim.Native.Nat.{ℕ, ◌%◌, ◌^◌, ◌<◌, ◌≤◌}
+use Prim.Native.Nat.{ℕ, ◌%◌, ◌^◌, ◌≤◌}
 use native.Mathlib.Nat.{mod-lt, mod-eq_of_lt}
-use borrow.Author.Rules.{rules}
 use lib.Pow.{pow_pos}
 use Rattle.reading.specs.Wrong.{answer}
 use Rattle.lookup.specs.Search.{last_of, two_by}

@@ -2,10 +2,10 @@
 use mathlib.Core.Path.{◌≡◌, refl, sym, ap, ◌∙◌}
 use mathlib.Core.List.{[], ◌∷◌}
 use mathlib.Core.Option.{some}
-use Prim.Native.Nat.{ℕ, ◌-◌, ◌/◌, ◌%◌, ◌≤◌, ◌<◌}
+use Prim.Native.Nat.{ℕ, ◌/◌, ◌%◌, ◌≤◌, ◌<◌}
 use borrow.Author.Rules.{rules}
 use Rattle.reading.specs.Wrong.{answer}
-use Rattle.lookup.specs.Search.{three_from, three_by}
+use Rattle.lookup.specs.Search.{three_by}
 use Rattle.lookup.proofs.Search.{both_at, three-here, three-on, three-over}
 use Rattle.lookup.proofs.three_by.Goals as goal
 

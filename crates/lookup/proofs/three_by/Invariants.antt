@@ -1,12 +1,7 @@
 -- `lookup::three_by` meets its contract. The loop's invariant: what is to be found is found from the first place reached on. Assumes nothing.
-use mathlib.Core.Path.{◌≡◌, refl, sym, ap, ◌∙◌}
-use mathlib.Core.List.{[], ◌∷◌}
-use mathlib.Core.Option.{some}
-use Prim.Native.Nat.{ℕ, ◌-◌, ◌/◌, ◌%◌, ◌≤◌, ◌<◌}
-use borrow.Author.Rules.{rules}
-use Rattle.reading.specs.Wrong.{answer}
+use mathlib.Core.Path.{◌≡◌}
+use Prim.Native.Nat.{◌-◌, ◌≤◌}
 use Rattle.lookup.specs.Search.{three_from, three_by}
-use Rattle.lookup.proofs.Search.{both_at, three-here, three-on, three-over}
 use Rattle.lookup.proofs.three_by.Given as goal
 
 abbrev pub invariant-loop-i : goal.invariant-loop-i

@@ -1,9 +1,8 @@
 -- `lookup::two_by` meets its contract. Assumes nothing.
-use mathlib.Core.Path.{◌≡◌, sym, ap, ◌∙◌}
+use mathlib.Core.Path.{sym, ap, ◌∙◌}
 use mathlib.Core.List.{[], ◌∷◌}
 use mathlib.Core.Option.{some}
 use Prim.Native.Nat.{ℕ, ◌/◌, ◌%◌}
-use borrow.Author.Rules.{rules}
 use Rattle.reading.specs.Wrong.{answer}
 use Rattle.lookup.proofs.Search.{two-away, two-there}
 use Rattle.lookup.proofs.two_by.Goals as goal

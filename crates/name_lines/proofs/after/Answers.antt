@@ -1,7 +1,6 @@
 -- `name_lines::after` meets its contract. Assumes nothing.
 use mathlib.Core.Path.{refl}
 use Rattle.name_lines.specs.Names.{noted_after}
-use borrow.Author.Rules.{rules}
 use Rattle.name_lines.proofs.after.Goals as goal
 
 pub returns-then-complete : goal.returns-then-complete

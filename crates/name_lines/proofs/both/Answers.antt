@@ -1,6 +1,5 @@
 -- `name_lines::both` meets its contract. Assumes nothing.
 use mathlib.Core.Path.{refl}
-use borrow.Author.Rules.{rules}
 use Rattle.name_lines.proofs.both.Goals as goal
 
 pub returns-then-before : goal.returns-then-before

@@ -2,7 +2,6 @@
 use mathlib.Core.Path.{refl}
 use borrow.Author.Tests.{lt-ltb, le-ltb, eq-eqb, ne_eqb}
 use Rattle.name_lines.specs.Names.{plain}
-use borrow.Author.Rules.{rules}
 use Rattle.name_lines.proofs.is_plain.Goals as goal
 
 pub returns-then-x-lt32 : goal.returns-then-x-lt32

@@ -5,7 +5,6 @@ use Prim.Native.Nat.{ℕ}
 use Rattle.text.specs.Page.{page, put_text}
 use Rattle.text_rows.proofs.Turns.{part_cut}
 use Rattle.name_lines.specs.Names.{label_line, channel_line}
-use borrow.Author.Rules.{rules}
 use Rattle.name_lines.proofs.put_channel.Goals as goal
 
 pub returns-then-unchanged : goal.returns-then-unchanged

@@ -1,8 +1,7 @@
 -- `name_lines::put_channels` meets its contract. Assumes nothing.
-use Prim.Native.Nat.{ℕ, ◌-◌, ◌≤◌}
+use Prim.Native.Nat.{ℕ}
 use mathlib.Core.Path.{◌≡◌, refl, ap, ◌∙◌}
 use native.Mathlib.Omega.{arith}
-use lib.ListN.{length}
 use Rattle.text.specs.Page.{page, put_text}
 use Rattle.text_rows.specs.Turns.{in_turn}
 use Rattle.text_rows.proofs.Turns.{turn_more}

@@ -1,13 +1,10 @@
 -- `name_lines::put_channels` meets its contract. Assumes nothing.
-use Prim.Native.Nat.{ℕ, ◌-◌, ◌≤◌}
-use mathlib.Core.Path.{◌≡◌, refl, ap, ◌∙◌}
-use native.Mathlib.Omega.{arith}
+use Prim.Native.Nat.{◌-◌, ◌≤◌}
+use mathlib.Core.Path.{◌≡◌}
 use lib.ListN.{length}
 use Rattle.text.specs.Page.{page, put_text}
 use Rattle.text_rows.specs.Turns.{in_turn}
-use Rattle.text_rows.proofs.Turns.{turn_more}
 use Rattle.name_lines.specs.Names.{channel_line}
-use borrow.Author.Rules.{rules}
 use Rattle.name_lines.proofs.put_channels.Given as goal
 
 abbrev pub invariant-loop-c : goal.invariant-loop-c

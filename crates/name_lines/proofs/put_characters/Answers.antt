@@ -1,8 +1,6 @@
 -- `name_lines::put_characters` meets its contract. Assumes nothing.
-use Prim.Native.Nat.{◌-◌, ◌≤◌}
-use mathlib.Core.Path.{◌≡◌, refl}
+use mathlib.Core.Path.{refl}
 use native.Mathlib.Omega.{arith}
-use lib.ListN.{length, take}
 use Rattle.text.specs.Page.{page, put_text}
 use Rattle.text_rows.specs.Rows.{spelled}
 use Rattle.text_rows.proofs.Spelled.{spelled-more, spelled-all}

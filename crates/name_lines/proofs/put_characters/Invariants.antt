@@ -1,13 +1,10 @@
 -- `name_lines::put_characters` meets its contract. Assumes nothing.
 use Prim.Native.Nat.{◌-◌, ◌≤◌}
-use mathlib.Core.Path.{◌≡◌, refl}
-use native.Mathlib.Omega.{arith}
+use mathlib.Core.Path.{◌≡◌}
 use lib.ListN.{length, take}
 use Rattle.text.specs.Page.{page, put_text}
 use Rattle.text_rows.specs.Rows.{spelled}
-use Rattle.text_rows.proofs.Spelled.{spelled-more, spelled-all}
 use Rattle.name_lines.specs.Names.{quoted}
-use borrow.Author.Rules.{rules}
 use Rattle.name_lines.proofs.put_characters.Given as goal
 
 abbrev pub invariant-loop-i : goal.invariant-loop-i

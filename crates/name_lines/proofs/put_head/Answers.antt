@@ -2,7 +2,6 @@
 use Rattle.bits.specs.Letters.{letters}
 use Rattle.text.proofs.Pages.{put_then}
 use Rattle.name_lines.specs.Names.{head_text}
-use borrow.Author.Rules.{rules}
 use Rattle.name_lines.proofs.put_head.Goals as goal
 
 pub returns : goal.returns

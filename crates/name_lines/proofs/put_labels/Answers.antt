@@ -1,14 +1,13 @@
 -- `name_lines::put_labels` meets its contract. Assumes nothing.
 use Prim.Native.Nat.{ℕ}
-use mathlib.Core.Path.{◌≡◌, refl, ◌∙◌}
+use mathlib.Core.Path.{◌≡◌, refl}
 use mathlib.Core.Bool.{Bool}
 use mathlib.Core.List.{List}
 use native.Mathlib.Omega.{arith}
-use borrow.Author.Tests.{eq-eqb, ne_eqb}
+use borrow.Author.Tests.{ne_eqb}
 use Rattle.text.proofs.Entry.{entered-short, entered-whole}
 use Rattle.name_lines.specs.declared.Labels.{Labels}
 use Rattle.name_lines.specs.Names.{label_text, noted_after}
-use borrow.Author.Rules.{rules}
 use Rattle.name_lines.proofs.put_labels.Goals as goal
 
 -- a number was given: what was noted stays; none was given: what is noted depends on the labels alone

@@ -2,7 +2,6 @@
 use mathlib.Core.Path.{refl}
 use Rattle.text.specs.Page.{put_text}
 use Rattle.name_lines.specs.Names.{label_text}
-use borrow.Author.Rules.{rules}
 use Rattle.name_lines.proofs.put_lines.Goals as goal
 
 pub returns-then-complete : goal.returns-then-complete

@@ -3,7 +3,6 @@ use mathlib.Core.Path.{sym, ◌∙◌}
 use Rattle.text.proofs.Pages.{put_then}
 use Rattle.text_rows.specs.Rows.{spelled}
 use Rattle.name_lines.specs.Names.{quoted}
-use borrow.Author.Rules.{rules}
 use Rattle.name_lines.proofs.put_quoted.Goals as goal
 
 pub returns-then-is_plain : goal.returns-then-is_plain

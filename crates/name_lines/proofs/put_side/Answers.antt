@@ -1,7 +1,6 @@
 -- `name_lines::put_side` meets its contract. Assumes nothing.
 use borrow.Author.Tests.{eq-eqb, ne_eqb}
 use Rattle.bits.specs.Letters.{letters}
-use borrow.Author.Rules.{rules}
 use Rattle.name_lines.proofs.put_side.Goals as goal
 
 pub returns-then-c-eq0 : goal.returns-then-c-eq0

@@ -1,14 +1,7 @@
 -- `name_lines::same_label` meets its contract. Assumes nothing.
-use Prim.Native.Nat.{ℕ, ◌+◌, ◌-◌, ◌*◌, ◌≤◌}
-use mathlib.Core.Path.{◌≡◌, refl, ap, sym, ◌∙◌}
-use mathlib.Core.Bool.{Bool, false, cond}
-use mathlib.Core.List.{List}
-use native.Mathlib.Numerals.{add-one}
-use native.Mathlib.Omega.{arith}
-use lib.Dec.{eqb}
-use lib.ListN.{get_or}
+use Prim.Native.Nat.{◌-◌, ◌≤◌}
+use mathlib.Core.Path.{◌≡◌}
 use Rattle.name_lines.specs.Names.{same_to}
-use borrow.Author.Rules.{rules}
 use Rattle.name_lines.proofs.same_label.Given as goal
 
 abbrev pub invariant-loop-i : goal.invariant-loop-i

@@ -1,6 +1,5 @@
 -- `name_lines::unchanged` meets its contract. Assumes nothing.
 use mathlib.Core.Path.{refl}
-use borrow.Author.Rules.{rules}
 use Rattle.name_lines.proofs.unchanged.Goals as goal
 
 pub returns-then-known : goal.returns-then-known

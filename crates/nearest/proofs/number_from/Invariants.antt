@@ -1,15 +1,8 @@
 -- `nearest::number_from` meets its contract: the sum is the number that the bits so far make. Assumes nothing.
-use mathlib.Core.Path.{◌≡◌, refl, sym, ap, ap₂, ◌∙◌}
-use Prim.Native.Nat.{ℕ, ◌+◌, ◌-◌, ◌*◌, ◌%◌, ◌^◌, ◌<◌, ◌≤◌}
-use native.Mathlib.Nat.{lt_of_lt_of_le}
-use native.Mathlib.Omega.{arith}
-use lib.ListN.{get_or}
-use lib.Pow.{pow_mono}
-use Rattle.bits.specs.Table.{tabulate}
+use mathlib.Core.Path.{◌≡◌}
+use Prim.Native.Nat.{◌-◌, ◌≤◌}
 use Rattle.bits.specs.Digits.{value}
 use Rattle.nearest.specs.Search.{bits_from}
-use Rattle.nearest.proofs.Numbers.{number_small, number_more}
-use borrow.Author.Rules.{rules}
 use Rattle.nearest.proofs.number_from.Given as goal
 
 abbrev pub invariant-loop-j : goal.invariant-loop-j

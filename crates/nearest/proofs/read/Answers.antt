@@ -6,7 +6,6 @@ use Prim.Native.Nat.{ℕ}
 use native.Mathlib.Omega.{arith}
 use lib.ListN.{length}
 use lib.Seq.{take_all}
-use borrow.Author.Tests.{not-true, not-false}
 use Rattle.bits.specs.Bits.{are_bits}
 use Rattle.nearest.specs.Reading.{read_scale, scale_answer}
 use Rattle.nearest.specs.Search.{best_told}

@@ -5,7 +5,6 @@ use mathlib.Core.List.{List}
 use Prim.Native.Nat.{ℕ, ◌^◌, ◌<◌}
 use native.Mathlib.Omega.{arith}
 use lib.ListN.{length}
-use borrow.Author.Tests.{not-true, not-false}
 use Rattle.bits.specs.Bits.{are_bits}
 use Rattle.nearest.specs.Reading.{read_scale}
 use Rattle.nearest.specs.Extra.{beside, extra_answer}

@@ -1,7 +1,7 @@
 -- `pairs::starts` meets its contract: the table's rule, computed over the whole of it. Assumes nothing.
 use mathlib.Core.Path.{◌∙◌}
 use mathlib.Core.List.{List, map}
-use Prim.Native.Nat.{ℕ, ◌/◌, ◌%◌, ◌^◌}
+use Prim.Native.Nat.{ℕ, ◌/◌, ◌^◌}
 use Rattle.bits.specs.Table.{tabulate}
 use Rattle.bits.specs.Digits.{value}
 use Rattle.remainder.specs.Polynomial.{◌⊕◌, times}

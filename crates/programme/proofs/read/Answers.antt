@@ -2,15 +2,11 @@
 use mathlib.Core.Path.{◌≡◌}
 use Prim.Native.Nat.{ℕ, ◌/◌, ◌%◌}
 use native.Mathlib.Omega.{arith}
-use borrow.Author.Tests.{eq-eqb, ne_eqb}
+use borrow.Author.Tests.{eq-eqb}
 use Rattle.bits.specs.Bits.{ones}
 use Rattle.programme.specs.Byte.{eight, read_byte, even}
 use Rattle.programme.proofs.Byte.{kind-is, music-is, mode-is}
 use Rattle.programme.proofs.read.Goals as goal
-
-pub returns-then-ones_of-ne0 : goal.returns-then-ones_of-ne0
-unfolding read_byte even
-returns-then-ones_of-ne0 c = rw (ne_eqb (ones (eight c.args.byte) % 2) 0 (rw c.ones_of.ensures at c.if-ones_of-ne0.true))
 
 pub returns : goal.returns
 unfolding read_byte even

@@ -3,15 +3,11 @@ use mathlib.Core.Path.{◌≡◌, sym, ap₂}
 use mathlib.Core.List.{List, [], ◌∷◌}
 use Prim.Native.Nat.{ℕ}
 use native.Mathlib.Omega.{arith}
-use borrow.Author.Tests.{lt-leb, le-leb}
+use borrow.Author.Tests.{le-leb}
 use lib.ListN.{length}
 use Rattle.bits.specs.Answer.{accepted}
 use Rattle.reel.specs.Header.{number_at, good_header, header_of}
 use Rattle.reel.proofs.read_header.Goals as goal
-
-pub returns-then-bytes-lt16 : goal.returns-then-bytes-lt16
-unfolding header_of
-returns-then-bytes-lt16 c = rw (lt-leb 16 (length c.args.bytes.now) (omega arith))
 
 pub returns-then-is_header : goal.returns-then-is_header
 unfolding header_of

@@ -1,8 +1,8 @@
 -- `scale::bits_of` meets its contract: the bits so far are the word's digits. Assumes nothing.
 use mathlib.Core.Path.{◌≡◌, refl, sym}
-use Prim.Native.Nat.{◌-◌, ◌<◌, ◌≤◌}
+use Prim.Native.Nat.{◌<◌}
 use native.Mathlib.Omega.{arith}
-use lib.ListN.{length, take, length-set}
+use lib.ListN.{length, length-set}
 use Rattle.bits.specs.Digits.{digits}
 use Rattle.bits.proofs.Digits.{length_digits, get_or-digits}
 use Rattle.bits.proofs.Table.{toward, arrived}

@@ -1,12 +1,8 @@
 -- `scale::bits_of` meets its contract: the bits so far are the word's digits. Assumes nothing.
-use mathlib.Core.Path.{◌≡◌, refl, sym}
-use Prim.Native.Nat.{◌-◌, ◌<◌, ◌≤◌}
-use native.Mathlib.Omega.{arith}
-use lib.ListN.{length, take, length-set}
+use mathlib.Core.Path.{◌≡◌}
+use Prim.Native.Nat.{◌-◌, ◌≤◌}
+use lib.ListN.{length, take}
 use Rattle.bits.specs.Digits.{digits}
-use Rattle.bits.proofs.Digits.{length_digits, get_or-digits}
-use Rattle.bits.proofs.Table.{toward, arrived}
-use borrow.Author.Rules.{rules}
 use Rattle.scale.proofs.bits_of.Given as goal
 
 abbrev pub invariant-loop-i : goal.invariant-loop-i

@@ -8,7 +8,6 @@ use Rattle.bits.specs.Digits.{digits}
 use Rattle.scale.specs.Word.{scale_word, written_scale}
 use Rattle.scale.specs.declared.Written.{Written}
 use Rattle.scale.proofs.Word.{word-digits}
-use borrow.Author.Rules.{rules}
 use Rattle.scale.proofs.write.Goals as goal
 
 abbrev made : List ℕ → Written

@@ -1,7 +1,6 @@
 -- `service::accepted` meets its contract. Assumes nothing.
 use mathlib.Core.Path.{sym, ◌∙◌}
 use Rattle.service.specs.Service.{accepts}
-use borrow.Author.Rules.{rules}
 use Rattle.service.proofs.accepted.Goals as goal
 
 pub returns-then-in_range : goal.returns-then-in_range

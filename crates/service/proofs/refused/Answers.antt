@@ -1,7 +1,6 @@
 -- `service::refused` meets its contract. Assumes nothing.
 use mathlib.Core.Path.{refl}
 use Rattle.service.specs.Service.{refused_service}
-use Rattle.bits.specs.Table.{zeros}
 use Rattle.service.proofs.refused.Goals as goal
 
 pub returns : goal.returns

@@ -1,8 +1,6 @@
 -- `service::serve` meets its contract: what it calls ensures, put together. Assumes nothing.
 use mathlib.Core.Path.{sym, ◌∙◌}
-use borrow.Author.Tests.{not-true, not-false}
 use Rattle.service.specs.Service.{served}
-use borrow.Author.Rules.{rules}
 use Rattle.service.proofs.serve.Goals as goal
 
 pub returns-then-not-accepted : goal.returns-then-not-accepted

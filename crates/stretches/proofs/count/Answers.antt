@@ -1,6 +1,5 @@
 -- `stretches::count` meets its contract. Assumes nothing.
 use borrow.Author.Tests.{lt-ltb, le-ltb}
-use borrow.Author.Rules.{rules}
 use Rattle.stretches.proofs.count.Goals as goal
 
 pub returns-then-c-lt18446744073709551615 : goal.returns-then-c-lt18446744073709551615

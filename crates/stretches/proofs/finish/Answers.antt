@@ -1,10 +1,9 @@
 -- `stretches::finish` meets its contract. Assumes nothing.
-use mathlib.Core.Path.{◌≡◌, sym, ap, ◌∙◌}
+use mathlib.Core.Path.{sym, ap, ◌∙◌}
 use Rattle.text.specs.Page.{page, put_text}
 use Rattle.stretches.specs.declared.Open.{Open}
 use Rattle.stretches.specs.Stretches.{opened}
 use Rattle.label.specs.Lines.{lines}
-use borrow.Author.Rules.{rules}
 use Rattle.stretches.proofs.finish.Goals as goal
 
 pub returns-in-Nothing : goal.returns-in-Nothing

@@ -1,6 +1,5 @@
 -- `stretches::grown` meets its contract. Assumes nothing.
 use Rattle.stretches.proofs.Laws.{same-counts}
-use borrow.Author.Rules.{rules}
 use Rattle.stretches.proofs.grown.Goals as goal
 
 pub returns : goal.returns

@@ -1,11 +1,10 @@
 -- `stretches::meet` meets its contract. Assumes nothing.
-use mathlib.Core.Path.{◌≡◌, sym, ap, ◌∙◌}
-use mathlib.Core.List.{List, [], ◌∷◌}
+use mathlib.Core.Path.{sym, ap, ◌∙◌}
+use mathlib.Core.List.{[], ◌∷◌}
 use borrow.Author.Tests.{eq-eqb, ne_eqb}
 use lib.ListN.{take}
 use Rattle.label.specs.declared.Stretch.{Stretch}
 use Rattle.stretches.proofs.Laws.{quiet, first, on, anew, one-open}
-use borrow.Author.Rules.{rules}
 use Rattle.stretches.proofs.meet.Goals as goal
 
 pub returns-then-kind-eq0 : goal.returns-then-kind-eq0

@@ -2,9 +2,8 @@
 use Prim.Native.Nat.{◌+◌}
 use mathlib.Core.Path.{sym}
 use native.Mathlib.Omega.{arith}
-use borrow.Author.Tests.{lt-ltb, le-ltb}
+use borrow.Author.Tests.{lt-ltb}
 use Rattle.stretches.proofs.Laws.{near-test}
-use borrow.Author.Rules.{rules}
 use Rattle.stretches.specs.Stretches.{rest}
 use Rattle.stretches.proofs.near.Goals as goal
 

@@ -1,13 +1,12 @@
 -- `stretches::put_ended` meets its contract. Assumes nothing.
-use mathlib.Core.Path.{◌≡◌, sym, ap, ◌∙◌}
-use mathlib.Core.List.{List, [], ◌∷◌}
+use mathlib.Core.Path.{sym, ap, ◌∙◌}
+use mathlib.Core.List.{List}
 use borrow.Author.Tests.{eq-eqb, ne_eqb}
 use lib.ListN.{drop}
 use Rattle.text.specs.Page.{page, put_text}
 use Rattle.label.specs.declared.Stretch.{Stretch}
 use Rattle.label.specs.Lines.{lines}
 use Rattle.stretches.proofs.Laws.{quiet, first, on, anew, none-ended}
-use borrow.Author.Rules.{rules}
 use Rattle.stretches.proofs.put_ended.Goals as goal
 
 pub returns-then-kind-eq0 : goal.returns-then-kind-eq0

@@ -1,16 +1,10 @@
 -- `stretches::step_each` meets its contract: after i turns, what the first i pairs do. Assumes nothing.
-use Prim.Native.Nat.{ℕ, ◌+◌, ◌-◌, ◌*◌, ◌≤◌}
-use mathlib.Core.Path.{◌≡◌, refl, sym, ap, ◌∙◌}
-use mathlib.Core.List.{List}
-use native.Mathlib.Omega.{arith}
+use Prim.Native.Nat.{◌-◌, ◌*◌, ◌≤◌}
+use mathlib.Core.Path.{◌≡◌}
 use lib.ListN.{length, take, drop}
-use lib.Seq.{take_all}
 use Rattle.text.specs.Page.{page, put_text}
-use Rattle.label.specs.declared.Stretch.{Stretch}
 use Rattle.stretches.specs.Stretches.{from, opened}
 use Rattle.label.specs.Lines.{lines}
-use Rattle.stretches.proofs.Laws.{one-open, none-ended, turn_last, turn_lines}
-use borrow.Author.Rules.{rules}
 use Rattle.stretches.proofs.step_each.Given as goal
 
 abbrev pub invariant-loop-i : goal.invariant-loop-i

@@ -1,6 +1,5 @@
 use mathlib.Core.Path.{refl}
 use borrow.Author.Tests.{lt-ltb, le-ltb}
-use borrow.Author.Rules.{rules}
 use Rattle.text_rows.proofs.hex_digit.Goals as goal
 
 pub returns-then-low-lt10 : goal.returns-then-low-lt10

@@ -4,7 +4,6 @@ use mathlib.Core.List.{[], ◌∷◌}
 use Prim.Native.Nat.{ℕ}
 use Rattle.text.specs.Page.{page, put_text}
 use Rattle.text.proofs.Pages.{put_then}
-use borrow.Author.Rules.{rules}
 use Rattle.text_rows.proofs.put_byte.Goals as goal
 
 pub returns : goal.returns

@@ -1,12 +1,9 @@
 -- `text_rows::put_hex` meets its contract: after i turns the page holds the text of the first i. Assumes nothing.
 use Prim.Native.Nat.{◌-◌, ◌≤◌}
-use mathlib.Core.Path.{◌≡◌, refl}
-use native.Mathlib.Omega.{arith}
+use mathlib.Core.Path.{◌≡◌}
 use lib.ListN.{length, take}
 use Rattle.text.specs.Page.{page, put_text}
 use Rattle.text_rows.specs.Rows.{spelled, hex_byte}
-use Rattle.text_rows.proofs.Spelled.{spelled-more, spelled-all}
-use borrow.Author.Rules.{rules}
 use Rattle.text_rows.proofs.put_hex.Given as goal
 
 abbrev pub invariant-loop-i : goal.invariant-loop-i

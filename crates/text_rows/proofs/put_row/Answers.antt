@@ -1,9 +1,8 @@
 -- `text_rows::put_row` meets its contract: after i turns the page holds the text of the first i. Assumes nothing.
-use Prim.Native.Nat.{◌+◌, ◌-◌, ◌%◌, ◌≤◌}
-use mathlib.Core.Path.{◌≡◌, refl}
+use Prim.Native.Nat.{◌+◌, ◌%◌}
+use mathlib.Core.Path.{refl}
 use mathlib.Core.List.{[], ◌∷◌}
 use native.Mathlib.Omega.{arith}
-use lib.ListN.{length, take}
 use Rattle.text.specs.Page.{page, put_text}
 use Rattle.text_rows.specs.Rows.{spelled}
 use Rattle.text_rows.proofs.Spelled.{spelled-more, spelled-all}

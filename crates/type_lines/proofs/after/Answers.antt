@@ -3,9 +3,7 @@ use mathlib.Core.Path.{refl, ap}
 use mathlib.Core.List.{List}
 use Prim.Native.Nat.{ℕ}
 use borrow.Author.Tests.{eq-eqb, ne_eqb}
-use Rattle.type_lines.specs.declared.Types.{Types}
 use Rattle.type_lines.specs.Types.{types_after}
-use borrow.Author.Rules.{rules}
 use Rattle.type_lines.proofs.after.Goals as goal
 
 pub returns-then-position-ne8 : goal.returns-then-position-ne8

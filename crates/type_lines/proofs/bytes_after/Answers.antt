@@ -1,6 +1,5 @@
 -- `type_lines::bytes_after` meets its contract. Assumes nothing.
 use mathlib.Core.Path.{refl}
-use borrow.Author.Rules.{rules}
 use Rattle.type_lines.proofs.bytes_after.Goals as goal
 
 pub returns-then-told : goal.returns-then-told

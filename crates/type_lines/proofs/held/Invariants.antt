@@ -1,13 +1,7 @@
 -- `type_lines::held` meets its contract: what is behind the place are spaces. Assumes nothing.
-use Prim.Native.Nat.{ℕ, zero, suc, ◌-◌, ◌<◌, ◌≤◌}
-use mathlib.Core.Path.{◌≡◌, refl, sym, ap, ◌∙◌}
-use mathlib.Core.List.{List}
-use native.Mathlib.Nat.{not-suc-le-zero}
-use native.Mathlib.Omega.{arith}
-use borrow.Author.Tests.{eq-eqb, ne_eqb}
-use lib.ListN.{get_or}
+use Prim.Native.Nat.{◌≤◌}
+use mathlib.Core.Path.{◌≡◌}
 use Rattle.type_lines.specs.Types.{held_to}
-use borrow.Author.Rules.{rules}
 use Rattle.type_lines.proofs.held.Given as goal
 
 abbrev pub invariant-loop-n : goal.invariant-loop-n

@@ -2,7 +2,6 @@
 use mathlib.Core.Path.{refl, sym, ◌∙◌}
 use borrow.Author.Tests.{eq-eqb, ne_eqb}
 use Rattle.type_lines.specs.Types.{tells}
-use borrow.Author.Rules.{rules}
 use Rattle.type_lines.proofs.is_told.Goals as goal
 
 pub returns-then-position-ne8 : goal.returns-then-position-ne8

@@ -10,7 +10,6 @@ use Rattle.programme.specs.declared.ByteRead.{ByteRead}
 use Rattle.programme.specs.declared.ByteRead.TheVariants.{Programme, Odd}
 use Rattle.type_lines.specs.Types.{byte_noted}
 use Rattle.type_lines.proofs.Heard.{even-read, odd-read}
-use borrow.Author.Rules.{rules}
 use Rattle.type_lines.proofs.noted_byte.Goals as goal
 
 -- the byte noted, by what it reads as

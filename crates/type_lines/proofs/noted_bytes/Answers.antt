@@ -1,12 +1,10 @@
 -- `type_lines::noted_bytes` meets its contract. Assumes nothing.
-use mathlib.Core.Path.{◌≡◌, refl}
-use mathlib.Core.List.{List, []}
-use Prim.Native.Nat.{ℕ, ◌-◌, ◌≤◌}
+use mathlib.Core.Path.{refl}
+use mathlib.Core.List.{[]}
 use native.Mathlib.Omega.{arith}
-use lib.ListN.{length, take, get_or, length-set}
-use Rattle.bits.specs.Table.{tabulate}
+use lib.ListN.{length-set}
 use Rattle.bits.proofs.Table.{tab-more, tab-none, tab-done}
-use Rattle.type_lines.specs.Types.{byte_noted, bytes_noted}
+use Rattle.type_lines.specs.Types.{bytes_noted}
 use borrow.Author.Rules.{rules}
 use Rattle.type_lines.proofs.noted_bytes.Goals as goal
 

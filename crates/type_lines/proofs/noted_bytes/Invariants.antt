@@ -1,13 +1,9 @@
 -- `type_lines::noted_bytes` meets its contract. Assumes nothing.
-use mathlib.Core.Path.{◌≡◌, refl}
-use mathlib.Core.List.{List, []}
-use Prim.Native.Nat.{ℕ, ◌-◌, ◌≤◌}
-use native.Mathlib.Omega.{arith}
-use lib.ListN.{length, take, get_or, length-set}
+use mathlib.Core.Path.{◌≡◌}
+use Prim.Native.Nat.{◌-◌, ◌≤◌}
+use lib.ListN.{length, take, get_or}
 use Rattle.bits.specs.Table.{tabulate}
-use Rattle.bits.proofs.Table.{tab-more, tab-none, tab-done}
-use Rattle.type_lines.specs.Types.{byte_noted, bytes_noted}
-use borrow.Author.Rules.{rules}
+use Rattle.type_lines.specs.Types.{byte_noted}
 use Rattle.type_lines.proofs.noted_bytes.Given as goal
 
 abbrev pub invariant-loop-c : goal.invariant-loop-c

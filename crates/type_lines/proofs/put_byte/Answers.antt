@@ -13,7 +13,6 @@ use Rattle.programme.specs.declared.ByteRead.TheVariants.{Programme, Odd}
 use Rattle.text.specs.Page.{page, put_text}
 use Rattle.type_lines.specs.Types.{type_line, byte_line}
 use Rattle.type_lines.proofs.Heard.{even-read, odd-read}
-use borrow.Author.Rules.{rules}
 use Rattle.type_lines.proofs.put_byte.Goals as goal
 
 -- the line of what a byte reads as

@@ -1,13 +1,11 @@
 -- `type_lines::put_bytes` meets its contract. Assumes nothing.
-use Prim.Native.Nat.{ℕ, ◌-◌, ◌≤◌}
+use Prim.Native.Nat.{ℕ}
 use mathlib.Core.Path.{◌≡◌, refl, ap, ◌∙◌}
-use mathlib.Core.List.{List}
 use native.Mathlib.Omega.{arith}
-use lib.ListN.{length, get_or}
 use Rattle.text.specs.Page.{page, put_text}
 use Rattle.text_rows.specs.Turns.{in_turn}
 use Rattle.text_rows.proofs.Turns.{turn_more}
-use Rattle.type_lines.specs.Types.{byte_line, type_lines}
+use Rattle.type_lines.specs.Types.{type_lines}
 use borrow.Author.Rules.{rules}
 use Rattle.type_lines.proofs.put_bytes.Goals as goal
 use Rattle.type_lines.proofs.put_bytes.Invariants.{line_at}

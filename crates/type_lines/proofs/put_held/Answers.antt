@@ -4,8 +4,6 @@ use mathlib.Core.Path.{◌≡◌, ap, ◌∙◌}
 use native.Mathlib.Omega.{arith}
 use lib.ListN.{take}
 use Rattle.text.specs.Page.{page, put_text}
-use Rattle.type_lines.specs.Types.{held_to}
-use borrow.Author.Rules.{rules}
 use Rattle.type_lines.proofs.put_held.Goals as goal
 
 whole : (n m : ℕ) → n ≡ m → n - 0 ≡ m

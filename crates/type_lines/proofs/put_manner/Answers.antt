@@ -1,7 +1,6 @@
 -- `type_lines::put_manner` meets its contract. Assumes nothing.
 use borrow.Author.Tests.{eq-eqb, ne_eqb}
 use Rattle.bits.specs.Letters.{letters}
-use borrow.Author.Rules.{rules}
 use Rattle.type_lines.proofs.put_manner.Goals as goal
 
 pub returns-then-music-eq0 : goal.returns-then-music-eq0

@@ -4,7 +4,6 @@ use lib.ListN.{take}
 use Rattle.programme.specs.declared.Name.{Name}
 use Rattle.text.specs.Page.{page, put_text}
 use Rattle.type_lines.specs.Types.{held_to, bare}
-use borrow.Author.Rules.{rules}
 use Rattle.type_lines.proofs.put_name.Goals as goal
 
 pub returns : goal.returns

@@ -2,7 +2,6 @@
 use mathlib.Core.Path.{refl}
 use Rattle.text.specs.Page.{put_text}
 use Rattle.type_lines.specs.Types.{type_text}
-use borrow.Author.Rules.{rules}
 use Rattle.type_lines.proofs.put_told.Goals as goal
 
 pub returns-then-told : goal.returns-then-told

@@ -2,7 +2,6 @@
 use Rattle.bits.specs.Letters.{letters}
 use Rattle.text.proofs.Pages.{put_then}
 use Rattle.type_lines.specs.Types.{type_line}
-use borrow.Author.Rules.{rules}
 use Rattle.type_lines.proofs.put_type.Goals as goal
 
 pub returns : goal.returns

@@ -4,12 +4,11 @@ use mathlib.Core.Path.{◌≡◌, refl, ap, ◌∙◌}
 use mathlib.Core.Bool.{Bool}
 use mathlib.Core.List.{List}
 use native.Mathlib.Omega.{arith}
-use borrow.Author.Tests.{eq-eqb, ne_eqb}
+use borrow.Author.Tests.{ne_eqb}
 use Rattle.text.specs.Page.{page, put_text}
 use Rattle.text.proofs.Entry.{entered-short, entered-whole}
 use Rattle.type_lines.specs.declared.Types.{Types}
 use Rattle.type_lines.specs.Types.{tells, type_text, types_after}
-use borrow.Author.Rules.{rules}
 use Rattle.type_lines.proofs.put_types.Goals as goal
 
 -- a number was given: what was noted stays; none was given: what is noted depends on the group alone

@@ -1,9 +1,8 @@
 -- `wav::body` meets its contract, by the two widths. Assumes nothing.
 use Prim.Native.Nat.{ℕ, ◌*◌, ◌≤◌}
-use mathlib.Core.Path.{◌≡◌, ap, ◌∙◌}
+use mathlib.Core.Path.{◌≡◌}
 use native.Mathlib.Omega.{arith}
 use Rattle.wav.specs.Header.{capped}
-use borrow.Author.Rules.{rules}
 use Rattle.wav.proofs.body.Goals as goal
 
 wide : (n p b k : ℕ) → n ≡ capped p → k ≡ 2 * b → k ≤ 4 → (n * k ≡ capped p * (2 * b)) × (n * k ≤ 17179869180)

@@ -4,7 +4,6 @@ use mathlib.Core.Path.{◌≡◌, ap, ap₂, ◌∙◌}
 use Rattle.text.specs.Page.{page, put_text}
 use Rattle.wav.specs.Header.{capped, fields, header}
 use Rattle.wav.proofs.Little.{capped-pairs}
-use borrow.Author.Rules.{rules}
 use Rattle.wav.proofs.put_all_of.Goals as goal
 
 pub returns : goal.returns

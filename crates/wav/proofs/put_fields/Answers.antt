@@ -2,7 +2,6 @@
 use Rattle.bits.specs.Letters.{letters}
 use Rattle.text.proofs.Pages.{put_then}
 use Rattle.wav.specs.Header.{fields}
-use borrow.Author.Rules.{rules}
 use Rattle.wav.proofs.put_fields.Goals as goal
 
 pub returns : goal.returns

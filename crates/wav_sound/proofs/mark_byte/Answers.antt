@@ -1,7 +1,6 @@
 -- `wav_sound::mark_byte` meets its contract. Assumes nothing.
 use borrow.Author.Tests.{lt-ltb, le-ltb}
 use Rattle.wav_sound.specs.Sound.{mark_byte}
-use borrow.Author.Rules.{rules}
 use Rattle.wav_sound.proofs.mark_byte.Goals as goal
 
 pub returns-then-m-lt5 : goal.returns-then-m-lt5

@@ -1,7 +1,6 @@
 -- `wav_sound::put_lost_bytes` meets its contract. Assumes nothing.
 use borrow.Author.Tests.{eq-eqb, ne_eqb}
 use Rattle.wav_sound.specs.Sound.{lost_bytes, lost_sound, lost_marks}
-use borrow.Author.Rules.{rules}
 use Rattle.wav_sound.proofs.put_lost_bytes.Goals as goal
 
 pub returns-then-bytes-eq1 : goal.returns-then-bytes-eq1

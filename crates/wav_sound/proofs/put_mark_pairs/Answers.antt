@@ -1,9 +1,8 @@
 -- `wav_sound::put_mark_pairs` meets its contract: after f turns the page holds the marks of the first f pairs. Assumes nothing.
-use Prim.Native.Nat.{ℕ, ◌-◌, ◌≤◌}
+use Prim.Native.Nat.{ℕ}
 use mathlib.Core.Path.{◌≡◌, refl, ap, ◌∙◌}
 use mathlib.Core.List.{[], ◌∷◌}
 use native.Mathlib.Omega.{arith}
-use lib.ListN.{length}
 use Rattle.text.specs.Page.{page, put_text}
 use Rattle.text.proofs.Pages.{put_then}
 use Rattle.text_rows.specs.Turns.{in_turn}

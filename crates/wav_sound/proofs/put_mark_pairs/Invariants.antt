@@ -1,15 +1,10 @@
 -- `wav_sound::put_mark_pairs` meets its contract: after f turns the page holds the marks of the first f pairs. Assumes nothing.
-use Prim.Native.Nat.{ℕ, ◌-◌, ◌≤◌}
-use mathlib.Core.Path.{◌≡◌, refl, ap, ◌∙◌}
-use mathlib.Core.List.{[], ◌∷◌}
-use native.Mathlib.Omega.{arith}
+use Prim.Native.Nat.{◌-◌, ◌≤◌}
+use mathlib.Core.Path.{◌≡◌}
 use lib.ListN.{length}
 use Rattle.text.specs.Page.{page, put_text}
-use Rattle.text.proofs.Pages.{put_then}
 use Rattle.text_rows.specs.Turns.{in_turn}
-use Rattle.text_rows.proofs.Turns.{turn_more}
-use Rattle.wav_sound.specs.Sound.{mark_bytes, pair_marks}
-use borrow.Author.Rules.{rules}
+use Rattle.wav_sound.specs.Sound.{pair_marks}
 use Rattle.wav_sound.proofs.put_mark_pairs.Given as goal
 
 abbrev pub invariant-loop-f : goal.invariant-loop-f

@@ -1,9 +1,9 @@
 -- `wav_sound::put_pairs` meets its contract: after f turns the page holds the first f pairs. Assumes nothing.
-use Prim.Native.Nat.{ℕ, ◌+◌, ◌-◌, ◌*◌, ◌^◌, ◌≤◌, ◌<◌}
+use Prim.Native.Nat.{ℕ, ◌+◌, ◌^◌, ◌<◌}
 use mathlib.Core.Path.{◌≡◌, refl, ap, ◌∙◌}
 use native.Mathlib.Omega.{arith}
 use lib.IntN.{ℤ, pos}
-use lib.ListN.{length, get_or}
+use lib.ListN.{get_or}
 use lib.Signed.{mag}
 use mir.Syntax.{w16}
 use mir.ValLaws.{to_z-of_z}

@@ -1,18 +1,10 @@
 -- `wav_sound::put_pairs` meets its contract: after f turns the page holds the first f pairs. Assumes nothing.
-use Prim.Native.Nat.{ℕ, ◌+◌, ◌-◌, ◌*◌, ◌^◌, ◌≤◌, ◌<◌}
-use mathlib.Core.Path.{◌≡◌, refl, ap, ◌∙◌}
-use native.Mathlib.Omega.{arith}
-use lib.IntN.{ℤ, pos}
-use lib.ListN.{length, get_or}
-use lib.Signed.{mag}
-use mir.Syntax.{w16}
-use mir.ValLaws.{to_z-of_z}
+use Prim.Native.Nat.{◌-◌, ◌≤◌}
+use mathlib.Core.Path.{◌≡◌}
+use lib.ListN.{length}
 use Rattle.text.specs.Page.{page, put_text}
-use Rattle.text.proofs.Pages.{put_then}
 use Rattle.text_rows.specs.Turns.{in_turn}
-use Rattle.text_rows.proofs.Turns.{turn_more}
-use Rattle.wav_sound.specs.Sound.{sample_bytes, pair_bytes, sound_bytes, left}
-use borrow.Author.Rules.{rules}
+use Rattle.wav_sound.specs.Sound.{pair_bytes}
 use Rattle.wav_sound.proofs.put_pairs.Given as goal
 
 abbrev pub invariant-loop-f : goal.invariant-loop-f

@@ -7,7 +7,6 @@ use Rattle.sample.specs.Pattern.{pattern_of}
 use Rattle.text.specs.Page.{page, put_text}
 use Rattle.wav.specs.Header.{little}
 use Rattle.wav_sound.specs.Sound.{sample_bytes}
-use borrow.Author.Rules.{rules}
 use Rattle.wav_sound.proofs.put_sample.Goals as goal
 
 pub returns : goal.returns

@@ -1,16 +1,13 @@
 -- `wav_sound::word` meets its contract. Assumes nothing.
 use mathlib.Core.Path.{◌≡◌, sym, ap, ◌∙◌}
-use mathlib.Core.Bool.{Bool}
 use Prim.Native.Nat.{ℕ, ◌-◌, ◌%◌}
 use native.Mathlib.Nat.{mod-eq_of_lt}
 use native.Mathlib.Omega.{arith}
-use lib.IntN.{pos}
-use lib.Signed.{mag, lt_z}
+use lib.Signed.{mag}
 use mir.Syntax.{w16}
 use mir.Val.{to_z, of_z}
 use mir.ValLaws.{to_z-of_z}
 use Rattle.sample.proofs.Patterns.{pattern-negative, pattern-other}
-use borrow.Author.Rules.{rules}
 use Rattle.wav_sound.proofs.word.Goals as goal
 
 pub returns-then-z-lt0 : goal.returns-then-z-lt0

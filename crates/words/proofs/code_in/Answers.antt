@@ -1,10 +1,8 @@
 -- `words::code_in` meets its contract. Assumes nothing.
 use mathlib.Core.Path.{ap, ◌∙◌}
 use Prim.Native.Nat.{ℕ, ◌+◌, ◌-◌, ◌*◌, ◌/◌, ◌%◌, ◌^◌}
-use native.Mathlib.Omega.{arith}
 use mir.Syntax.{w16}
 use mir.ValLaws.{to_z-of_z}
-use borrow.Author.Rules.{rules}
 use Rattle.sample.specs.Pattern.{signed_of}
 use Rattle.words.specs.Words.{code_in}
 use Rattle.words.proofs.code_in.Goals as goal

@@ -1,8 +1,6 @@
 -- `words::codes_in` meets its contract. Assumes nothing.
-use mathlib.Core.Path.{◌≡◌, refl, ◌∙◌}
-use Prim.Native.Nat.{◌-◌, ◌≤◌}
+use mathlib.Core.Path.{refl, ◌∙◌}
 use native.Mathlib.Omega.{arith}
-use lib.ListN.{length, take}
 use mir.Syntax.{w16}
 use mir.ValLaws.{to_z-of_z}
 use borrow.Author.Rules.{rules}

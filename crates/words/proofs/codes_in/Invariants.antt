@@ -1,13 +1,8 @@
 -- `words::codes_in` meets its contract. Assumes nothing.
-use mathlib.Core.Path.{◌≡◌, refl, ◌∙◌}
+use mathlib.Core.Path.{◌≡◌}
 use Prim.Native.Nat.{◌-◌, ◌≤◌}
-use native.Mathlib.Omega.{arith}
 use lib.ListN.{length, take}
-use mir.Syntax.{w16}
-use mir.ValLaws.{to_z-of_z}
-use borrow.Author.Rules.{rules}
 use Rattle.bits.specs.Table.{tabulate}
-use Rattle.bits.proofs.Table.{tab-more, tab-done}
 use Rattle.words.specs.Words.{code_in}
 use Rattle.words.proofs.codes_in.Given as goal
 

@@ -1,6 +1,5 @@
 -- `words::mended` meets its contract. Assumes nothing.
 use mathlib.Core.Path.{sym, ap}
-use borrow.Author.Rules.{rules}
 use Rattle.reading.specs.Wrong.{answer}
 use Rattle.reading.specs.declared.Places.{Places}
 use Rattle.words.specs.Words.{turned_all, mark_by, mended_by, righted}

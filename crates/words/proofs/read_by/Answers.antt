@@ -1,6 +1,5 @@
 -- `words::read_by` meets its contract: `read-parts`. Assumes nothing.
 use Rattle.words.proofs.Words.{read-parts}
-use borrow.Author.Rules.{rules}
 use Rattle.words.proofs.read_by.Goals as goal
 
 pub returns : goal.returns

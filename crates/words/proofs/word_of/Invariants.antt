@@ -1,13 +1,9 @@
 -- `words::word_of` meets its contract: the number that the bits so far make. Assumes nothing.
-use mathlib.Core.Path.{◌≡◌, ap, ◌∙◌}
-use Prim.Native.Nat.{ℕ, ◌+◌, ◌-◌, ◌*◌, ◌/◌, ◌^◌, ◌<◌, ◌≤◌}
-use native.Mathlib.Omega.{arith}
-use lib.Pow.{pow_mono}
-use borrow.Author.Rules.{rules}
+use mathlib.Core.Path.{◌≡◌}
+use Prim.Native.Nat.{◌+◌, ◌-◌, ◌*◌, ◌^◌, ◌<◌, ◌≤◌}
 use Rattle.bits.specs.Table.{tabulate}
 use Rattle.bits.specs.Digits.{value}
-use Rattle.words.specs.Words.{word_of}
-use Rattle.words.proofs.Words.{digit, first-seven, eight-more, word_below}
+use Rattle.words.proofs.Words.{digit}
 use Rattle.words.proofs.word_of.Given as goal
 
 abbrev pub invariant-loop-i : goal.invariant-loop-i

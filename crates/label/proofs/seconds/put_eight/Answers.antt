@@ -3,7 +3,6 @@ use mathlib.Core.Path.{sym, ap, ◌∙◌}
 use Rattle.text.specs.Page.{put_text}
 use Rattle.text.proofs.Pages.{put_then}
 use Rattle.label.proofs.Times.{padded-append}
-use borrow.Author.Rules.{rules}
 use Rattle.label.proofs.seconds.put_eight.Goals as goal
 
 pub returns : goal.returns

@@ -2,7 +2,6 @@
 use Rattle.bits.specs.Letters.{letters}
 use Rattle.text.proofs.Pages.{put_then}
 use Rattle.label.specs.Seconds.{seconds}
-use borrow.Author.Rules.{rules}
 use Rattle.label.proofs.seconds.put_seconds.Goals as goal
 
 pub returns : goal.returns

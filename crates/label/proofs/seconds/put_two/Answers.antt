@@ -2,7 +2,6 @@
 use mathlib.Core.List.{[], ◌∷◌}
 use Rattle.text.proofs.Pages.{put_then}
 use Rattle.label.specs.Seconds.{padded}
-use borrow.Author.Rules.{rules}
 use Rattle.label.proofs.seconds.put_two.Goals as goal
 
 pub returns : goal.returns

@@ -1,7 +1,6 @@
 -- `name_lines::Labels::none` meets its contract. Assumes nothing.
 use mathlib.Core.Path.{refl}
 use Rattle.name_lines.specs.Names.{no_labels}
-use borrow.Author.Rules.{rules}
 use Rattle.name_lines.proofs.Labels.none.Goals as goal
 
 pub returns : goal.returns

@@ -1,7 +1,6 @@
 -- `service::taking::take_six` meets its contract: what it calls ensures, put together. Assumes nothing.
 use Rattle.service_group.specs.Six.{labels_after}
 use Rattle.service.specs.Taking.{take_six}
-use borrow.Author.Rules.{rules}
 use Rattle.service.proofs.taking.take_six.Goals as goal
 
 pub returns : goal.returns

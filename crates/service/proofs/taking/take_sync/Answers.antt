@@ -1,6 +1,5 @@
 -- `service::taking::take_sync` meets its contract: what it calls ensures, put together. Assumes nothing.
 use Rattle.service.specs.Taking.{take_sync}
-use borrow.Author.Rules.{rules}
 use Rattle.service.proofs.taking.take_sync.Goals as goal
 
 pub returns : goal.returns

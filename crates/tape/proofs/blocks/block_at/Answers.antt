@@ -6,7 +6,6 @@ use native.Mathlib.Omega.{arith}
 use Rattle.frame.specs.Read.{gathered_of}
 use Rattle.frame.specs.declared.Gathered.{Gathered}
 use Rattle.tape.proofs.Tape.{block-given}
-use borrow.Author.Rules.{rules}
 use Rattle.tape.proofs.blocks.block_at.Goals as goal
 
 pub returns : goal.returns

@@ -1,11 +1,10 @@
 -- `tape::blocks::counts` meets its contract. Assumes nothing.
-use mathlib.Core.Path.{◌≡◌, sym, ap, ap₂, ◌∙◌}
+use mathlib.Core.Path.{sym, ap, ap₂, ◌∙◌}
 use Prim.Native.Nat.{ℕ}
 use borrow.Author.Tests.{ne_eqb}
 use Rattle.reading.specs.Reading.{ordinary}
 use Rattle.tape.specs.Tape.{gathered_from, counted_with, counts_of}
 use Rattle.tape.proofs.Tape.{sync-long, number-said, wrong-said, gathered-counts}
-use borrow.Author.Rules.{rules}
 use Rattle.tape.proofs.blocks.counts.Goals as goal
 
 pub returns-then-syncs-ne0 : goal.returns-then-syncs-ne0

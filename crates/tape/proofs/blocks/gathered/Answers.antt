@@ -1,8 +1,6 @@
 -- `tape::blocks::gathered` meets its contract. Assumes nothing.
 use mathlib.Core.Path.{sym, ◌∙◌}
-use borrow.Author.Tests.{not-true, not-false}
 use Rattle.tape.specs.Tape.{gathered_from}
-use borrow.Author.Rules.{rules}
 use Rattle.tape.proofs.blocks.gathered.Goals as goal
 
 pub returns-then-not-all_below : goal.returns-then-not-all_below

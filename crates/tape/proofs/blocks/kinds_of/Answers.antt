@@ -1,12 +1,8 @@
 -- `tape::blocks::kinds_of` meets its contract. Assumes nothing.
-use mathlib.Core.Path.{◌≡◌, refl}
-use mathlib.Core.List.{List}
-use Prim.Native.Nat.{ℕ, ◌-◌, ◌≤◌}
+use mathlib.Core.Path.{refl}
 use native.Mathlib.Omega.{arith}
-use lib.ListN.{length, get_or, take}
 use Rattle.bits.specs.Table.{tabulate}
 use Rattle.bits.proofs.Table.{tab-more, tab-done}
-use Rattle.block.specs.Mark.{counted_as}
 use Rattle.tape.specs.Tape.{counted_marks}
 use borrow.Author.Rules.{rules}
 use Rattle.tape.proofs.blocks.kinds_of.Goals as goal

@@ -1,14 +1,10 @@
 -- `tape::blocks::kinds_of` meets its contract. Assumes nothing.
-use mathlib.Core.Path.{◌≡◌, refl}
+use mathlib.Core.Path.{◌≡◌}
 use mathlib.Core.List.{List}
 use Prim.Native.Nat.{ℕ, ◌-◌, ◌≤◌}
-use native.Mathlib.Omega.{arith}
 use lib.ListN.{length, get_or, take}
 use Rattle.bits.specs.Table.{tabulate}
-use Rattle.bits.proofs.Table.{tab-more, tab-done}
 use Rattle.block.specs.Mark.{counted_as}
-use Rattle.tape.specs.Tape.{counted_marks}
-use borrow.Author.Rules.{rules}
 use Rattle.tape.proofs.blocks.kinds_of.Given as goal
 
 abbrev pub one : List ℕ → ℕ → ℕ

@@ -1,16 +1,10 @@
 -- `tape::blocks::marks_by` meets its contract. Assumes nothing.
-use mathlib.Core.Path.{◌≡◌, refl, ap, ◌∙◌}
-use mathlib.Core.Bool.{true}
-use Prim.Native.Nat.{◌-◌, ◌/◌, ◌%◌, ◌≤◌}
-use native.Mathlib.Omega.{arith}
+use mathlib.Core.Path.{◌≡◌}
+use Prim.Native.Nat.{◌-◌, ◌≤◌}
 use lib.ListN.{length, take}
 use Rattle.bits.specs.Table.{tabulate}
-use Rattle.bits.proofs.Table.{tab-more, tab-done}
-use Rattle.reading.specs.Reading.{ordinary, is_radius}
+use Rattle.reading.specs.Reading.{ordinary}
 use Rattle.tape.specs.Tape.{block_mark, in_eights}
-use Rattle.tape.specs.declared.blocks.Quad.{Quad}
-use Rattle.tape.proofs.Quads.{quad-true, quad-mark}
-use borrow.Author.Rules.{rules}
 use Rattle.tape.proofs.blocks.marks_by.Given as goal
 
 abbrev pub invariant-loop-n : goal.invariant-loop-n

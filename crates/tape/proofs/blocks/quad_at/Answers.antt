@@ -5,7 +5,6 @@ use Prim.Native.Nat.{ℕ}
 use Rattle.words.specs.Words.{told_by}
 use Rattle.words.specs.declared.Told.{Told}
 use Rattle.tape.specs.Tape.{quad_of}
-use borrow.Author.Rules.{rules}
 use Rattle.tape.proofs.blocks.quad_at.Goals as goal
 
 pub returns : goal.returns

@@ -1,8 +1,7 @@
 -- `tape::blocks::read_at` meets its contract. Assumes nothing.
 use mathlib.Core.Path.{sym, ◌∙◌}
-use borrow.Author.Tests.{eq-eqb, ne_eqb, lt-ltb, le-ltb, not-true, not-false}
+use borrow.Author.Tests.{eq-eqb, ne_eqb, lt-ltb, le-ltb}
 use Rattle.tape.specs.Tape.{quad_number, quad_by}
-use borrow.Author.Rules.{rules}
 use Rattle.tape.proofs.blocks.read_at.Goals as goal
 
 pub returns-then-sf-ne5120 : goal.returns-then-sf-ne5120

@@ -1,13 +1,8 @@
 -- `tape::blocks::tallies` meets its contract. Assumes nothing.
-use mathlib.Core.Path.{◌≡◌, refl}
-use mathlib.Core.List.{List}
-use Prim.Native.Nat.{ℕ, ◌-◌, ◌≤◌}
-use lib.Dec.{eqb}
+use mathlib.Core.Path.{refl}
 use native.Mathlib.Omega.{arith}
-use lib.ListN.{length, take}
 use Rattle.bits.specs.Table.{tabulate}
 use Rattle.bits.proofs.Table.{tab-more, tab-done}
-use Rattle.tape.specs.Tape.{how_many, mark_among}
 use borrow.Author.Rules.{rules}
 use Rattle.tape.proofs.blocks.tallies.Goals as goal
 use Rattle.tape.proofs.blocks.tallies.Invariants.{one}

@@ -1,14 +1,11 @@
 -- `tape::blocks::tallies` meets its contract. Assumes nothing.
-use mathlib.Core.Path.{◌≡◌, refl}
+use mathlib.Core.Path.{◌≡◌}
 use mathlib.Core.List.{List}
 use Prim.Native.Nat.{ℕ, ◌-◌, ◌≤◌}
 use lib.Dec.{eqb}
-use native.Mathlib.Omega.{arith}
 use lib.ListN.{length, take}
 use Rattle.bits.specs.Table.{tabulate}
-use Rattle.bits.proofs.Table.{tab-more, tab-done}
 use Rattle.tape.specs.Tape.{how_many, mark_among}
-use borrow.Author.Rules.{rules}
 use Rattle.tape.proofs.blocks.tallies.Given as goal
 
 abbrev pub one : List ℕ → ℕ → ℕ → ℕ

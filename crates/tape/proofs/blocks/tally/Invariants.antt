@@ -1,15 +1,9 @@
 -- `tape::blocks::tally` meets its contract. Assumes nothing.
-use mathlib.Core.Path.{◌≡◌, refl, sym, ap, ◌∙◌}
-use mathlib.Core.Bool.{Bool}
-use mathlib.Core.Logic.{⊎_elim}
-use Prim.Native.Nat.{ℕ, ◌+◌, ◌-◌, ◌*◌, ◌≤◌}
-use native.Mathlib.Omega.{arith}
-use borrow.Author.Tests.{eq-eqb, ne_eqb}
+use mathlib.Core.Path.{◌≡◌}
+use Prim.Native.Nat.{◌+◌, ◌-◌, ◌*◌, ◌≤◌}
 use lib.Dec.{eqb}
 use lib.ListN.{get_or}
 use Rattle.tape.specs.Tape.{how_many}
-use Rattle.tape.proofs.Tape.{many-yes, many-no}
-use borrow.Author.Rules.{rules}
 use Rattle.tape.proofs.blocks.tally.Given as goal
 
 abbrev pub invariant-loop-f : goal.invariant-loop-f

@@ -1,12 +1,8 @@
 -- `tape::frames::added` meets its contract. Assumes nothing.
-use mathlib.Core.Path.{◌≡◌, refl, sym, ap₂, ◌∙◌}
-use Prim.Native.Nat.{ℕ, ◌+◌, ◌-◌, ◌*◌, ◌≤◌, ◌<◌}
-use native.Mathlib.Omega.{arith}
-use borrow.Author.Count.{below_more}
+use mathlib.Core.Path.{◌≡◌}
+use Prim.Native.Nat.{ℕ, ◌-◌, ◌*◌, ◌≤◌, ◌<◌}
 use Rattle.frame.specs.Read.{most_wrong}
-use Rattle.tape.specs.Tape.{wrong_at, sum_to, wrong_bits, syncs_added}
-use Rattle.tape.proofs.Tape.{all-sync, not-sync, sum_more}
-use borrow.Author.Rules.{rules}
+use Rattle.tape.specs.Tape.{wrong_at, sum_to}
 use Rattle.tape.proofs.frames.added.Given as goal
 
 abbrev pub invariant-loop-f : goal.invariant-loop-f

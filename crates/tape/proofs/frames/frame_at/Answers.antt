@@ -1,6 +1,5 @@
 -- `tape::frames::frame_at` meets its contract. Assumes nothing.
 use Rattle.tape.proofs.Tape.{frame-part, frame-rest, frame-none}
-use borrow.Author.Rules.{rules}
 use Rattle.tape.proofs.frames.frame_at.Goals as goal
 
 pub returns-then-sf-a : goal.returns-then-sf-a

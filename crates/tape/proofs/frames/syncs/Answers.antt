@@ -2,7 +2,6 @@
 use mathlib.Core.Path.{refl}
 use borrow.Author.Tests.{eq-eqb, ne_eqb}
 use Rattle.tape.specs.Tape.{syncs_of}
-use borrow.Author.Rules.{rules}
 use Rattle.tape.proofs.frames.syncs.Goals as goal
 
 pub returns-then-sf-ne5120 : goal.returns-then-sf-ne5120

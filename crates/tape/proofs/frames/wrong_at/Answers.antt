@@ -2,7 +2,6 @@
 use mathlib.Core.Path.{ap₂, ◌∙◌}
 use Rattle.frame.specs.Read.{wrong_sync}
 use Rattle.tape.specs.Tape.{wrong_at}
-use borrow.Author.Rules.{rules}
 use Rattle.tape.proofs.frames.wrong_at.Goals as goal
 
 pub returns : goal.returns

@@ -1,7 +1,6 @@
 -- `type_lines::Types::none` meets its contract. Assumes nothing.
 use mathlib.Core.Path.{refl}
 use Rattle.type_lines.specs.Types.{no_types}
-use borrow.Author.Rules.{rules}
 use Rattle.type_lines.proofs.Types.none.Goals as goal
 
 pub returns : goal.returns

@@ -3,7 +3,6 @@ use mathlib.Core.Path.{ap, ◌∙◌}
 use Rattle.text.specs.Page.{put_text}
 use Rattle.text.proofs.Pages.{put_then}
 use Rattle.wav.proofs.Little.{little-four}
-use borrow.Author.Rules.{rules}
 use Rattle.wav.proofs.number.put_four.Goals as goal
 
 pub returns : goal.returns

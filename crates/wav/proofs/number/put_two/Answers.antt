@@ -5,7 +5,6 @@ use native.Mathlib.Omega.{arith}
 use Rattle.text.specs.Page.{put_text}
 use Rattle.text.proofs.Pages.{put_then}
 use Rattle.wav.proofs.Little.{little-two}
-use borrow.Author.Rules.{rules}
 use Rattle.wav.proofs.number.put_two.Goals as goal
 
 pub returns : goal.returns
