@@ -1,7 +1,6 @@
 -- `beside_text::put_beside` meets its contract. Assumes nothing.
 use Rattle.text.proofs.Pages.{put_then}
 use Rattle.beside_text.specs.Lines.{service_line, beside_text}
-use borrow.Author.Rules.{rules}
 use Rattle.beside_text.proofs.put_beside.Goals as goal
 
 pub returns : goal.returns

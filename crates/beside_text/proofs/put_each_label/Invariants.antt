@@ -1,14 +1,10 @@
 -- `beside_text::put_each_label` meets its contract. Assumes nothing.
-use Prim.Native.Nat.{ℕ, ◌-◌, ◌≤◌}
-use mathlib.Core.List.{List}
-use mathlib.Core.Path.{◌≡◌, refl, ap, ◌∙◌}
-use native.Mathlib.Omega.{arith}
+use Prim.Native.Nat.{◌-◌, ◌≤◌}
+use mathlib.Core.Path.{◌≡◌}
 use lib.ListN.{length}
 use Rattle.text.specs.Page.{page, put_text}
 use Rattle.text_rows.specs.Turns.{in_turn, part}
 use Rattle.beside_text.specs.Lines.{next_hex}
-use Rattle.text_rows.proofs.Turns.{turn_more, part_cut}
-use borrow.Author.Rules.{rules}
 use Rattle.beside_text.proofs.put_each_label.Given as goal
 
 abbrev pub invariant-loop-c : goal.invariant-loop-c

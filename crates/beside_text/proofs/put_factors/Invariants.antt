@@ -1,15 +1,10 @@
 -- `beside_text::put_factors` meets its contract. Assumes nothing.
-use Prim.Native.Nat.{ℕ, ◌-◌, ◌≤◌}
-use mathlib.Core.Path.{◌≡◌, refl, ap, ◌∙◌}
-use mathlib.Core.List.{List}
-use native.Mathlib.Omega.{arith}
+use Prim.Native.Nat.{◌-◌, ◌≤◌}
+use mathlib.Core.Path.{◌≡◌}
 use lib.ListN.{length, get_or}
-use Rattle.bits.specs.Letters.{letters}
 use Rattle.text.specs.Page.{page, put_text}
 use Rattle.text_rows.specs.Turns.{in_turn, part}
-use Rattle.beside_text.specs.Lines.{pair_text, factors_line}
-use Rattle.text_rows.proofs.Turns.{turn_more, turn-line, part_cut}
-use borrow.Author.Rules.{rules}
+use Rattle.beside_text.specs.Lines.{pair_text}
 use Rattle.beside_text.proofs.put_factors.Given as goal
 
 abbrev pub invariant-loop-q : goal.invariant-loop-q

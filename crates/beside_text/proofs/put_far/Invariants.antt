@@ -1,14 +1,10 @@
 -- `beside_text::put_far` meets its contract. Assumes nothing.
 use Prim.Native.Nat.{◌-◌, ◌≤◌}
-use mathlib.Core.Path.{◌≡◌, refl}
-use native.Mathlib.Omega.{arith}
+use mathlib.Core.Path.{◌≡◌}
 use lib.ListN.{length, get_or}
-use Rattle.bits.specs.Letters.{letters}
 use Rattle.text.specs.Page.{page, put_text}
 use Rattle.text_rows.specs.Turns.{in_turn}
-use Rattle.text_rows.proofs.Turns.{turn_more, turn-line}
-use Rattle.beside_text.specs.Lines.{places_text, far_line}
-use borrow.Author.Rules.{rules}
+use Rattle.beside_text.specs.Lines.{places_text}
 use Rattle.beside_text.proofs.put_far.Given as goal
 
 abbrev pub invariant-loop-q : goal.invariant-loop-q

@@ -2,7 +2,6 @@
 use borrow.Author.Tests.{eq-eqb, ne_eqb}
 use Rattle.bits.specs.Letters.{letters}
 use Rattle.beside_text.specs.Lines.{information_line}
-use borrow.Author.Rules.{rules}
 use Rattle.beside_text.proofs.put_information.Goals as goal
 
 pub returns-then-taken-ne0 : goal.returns-then-taken-ne0

@@ -2,7 +2,6 @@
 use Rattle.bits.specs.Letters.{letters}
 use Rattle.text.proofs.Pages.{put_then}
 use Rattle.beside_text.specs.Lines.{labels_line}
-use borrow.Author.Rules.{rules}
 use Rattle.beside_text.proofs.put_labels.Goals as goal
 
 pub returns-then-complete : goal.returns-then-complete

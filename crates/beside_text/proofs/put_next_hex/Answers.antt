@@ -1,7 +1,6 @@
 -- `beside_text::put_next_hex` meets its contract. Assumes nothing.
 use mathlib.Core.List.{[], ◌∷◌}
 use Rattle.text.proofs.Pages.{put_then}
-use borrow.Author.Rules.{rules}
 use Rattle.beside_text.proofs.put_next_hex.Goals as goal
 
 pub returns : goal.returns

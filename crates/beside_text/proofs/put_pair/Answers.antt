@@ -4,7 +4,6 @@ use borrow.Author.Tests.{eq-eqb, ne_eqb}
 use Rattle.bits.specs.Letters.{letters}
 use Rattle.text.proofs.Pages.{put_then}
 use Rattle.beside_text.specs.Lines.{pair_text}
-use borrow.Author.Rules.{rules}
 use Rattle.beside_text.proofs.put_pair.Goals as goal
 
 pub returns-then-number-eq0 : goal.returns-then-number-eq0

@@ -2,7 +2,6 @@
 use borrow.Author.Tests.{eq-eqb, ne_eqb}
 use Rattle.bits.specs.Letters.{letters}
 use Rattle.beside_text.specs.Lines.{places_text}
-use borrow.Author.Rules.{rules}
 use Rattle.beside_text.proofs.put_places.Goals as goal
 
 pub returns-then-number-ne0 : goal.returns-then-number-ne0

@@ -6,7 +6,6 @@ use native.Mathlib.Omega.{arith}
 use Rattle.bits.specs.Digits.{digits}
 use Rattle.text.specs.Page.{page, put_text}
 use Rattle.beside_text.specs.Lines.{next_hex}
-use borrow.Author.Rules.{rules}
 use Rattle.beside_text.proofs.put_word.Goals as goal
 
 thrice : (x : ℕ) → x / 65536 % 256 ≡ x / 256 / 256 % 256

@@ -1,15 +1,11 @@
 -- `beside_text::put_words` meets its contract. Assumes nothing.
 use Prim.Native.Nat.{◌-◌, ◌≤◌}
-use mathlib.Core.Path.{◌≡◌, refl}
-use native.Mathlib.Omega.{arith}
+use mathlib.Core.Path.{◌≡◌}
 use lib.ListN.{length, get_or}
 use Rattle.bits.specs.Digits.{digits}
-use Rattle.bits.specs.Letters.{letters}
 use Rattle.text.specs.Page.{page, put_text}
 use Rattle.text_rows.specs.Turns.{in_turn}
-use Rattle.beside_text.specs.Lines.{next_hex, words_line}
-use Rattle.text_rows.proofs.Turns.{turn_more, turn-line}
-use borrow.Author.Rules.{rules}
+use Rattle.beside_text.specs.Lines.{next_hex}
 use Rattle.beside_text.proofs.put_words.Given as goal
 
 abbrev pub invariant-loop-q : goal.invariant-loop-q

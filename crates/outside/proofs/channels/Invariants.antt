@@ -1,11 +1,8 @@
 -- `outside::channels` meets its contract. Assumes nothing.
-use mathlib.Core.Path.{◌≡◌, refl}
+use mathlib.Core.Path.{◌≡◌}
 use Prim.Native.Nat.{◌+◌, ◌-◌, ◌≤◌}
-use native.Mathlib.Omega.{arith}
 use lib.ListN.{length, get_or, take}
 use Rattle.bits.specs.Table.{tabulate}
-use Rattle.bits.proofs.Table.{tab-more, tab-done}
-use borrow.Author.Rules.{rules}
 use Rattle.outside.proofs.channels.Given as goal
 
 abbrev pub invariant-loop-k : goal.invariant-loop-k

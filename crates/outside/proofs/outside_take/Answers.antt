@@ -1,6 +1,5 @@
 -- `outside::outside_take` meets its contract: what is promised of `State::take`, over the bytes. Assumes nothing.
 use Rattle.outside.proofs.Took.{other_length, refused-one, refused-two, taken-by}
-use borrow.Author.Rules.{rules}
 use Rattle.outside.proofs.outside_take.Goals as goal
 
 pub returns-then-beside-ne88 : goal.returns-then-beside-ne88

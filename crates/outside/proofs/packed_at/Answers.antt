@@ -1,7 +1,6 @@
 -- `outside::packed_at` meets its contract. Assumes nothing.
 use borrow.Author.Tests.{lt-ltb, le-ltb}
 use Rattle.outside.specs.Outside.{packed_at}
-use borrow.Author.Rules.{rules}
 use Rattle.outside.proofs.packed_at.Goals as goal
 
 pub returns-then-k-lt32 : goal.returns-then-k-lt32

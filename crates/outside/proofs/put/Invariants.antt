@@ -1,12 +1,8 @@
 -- `outside::put` meets its contract. The loop's invariant: the places passed hold the new bytes. Assumes nothing.
-use mathlib.Core.Path.{◌≡◌, sym, ap, ◌∙◌}
+use mathlib.Core.Path.{◌≡◌}
 use Prim.Native.Nat.{◌-◌, ◌≤◌}
-use native.Mathlib.Numerals.{add-one}
-use native.Mathlib.Omega.{arith}
-use lib.ListN.{length}
-use Rattle.bits.proofs.Table.{filled, filled_zero, filled-set, filled-all, length-filled}
+use Rattle.bits.proofs.Table.{filled}
 use Rattle.outside.specs.Outside.{packed_at}
-use borrow.Author.Rules.{rules}
 use Rattle.outside.proofs.put.Given as goal
 
 abbrev pub invariant-loop-k : goal.invariant-loop-k

@@ -1,6 +1,5 @@
 -- `outside::state_from` meets its contract. Assumes nothing.
 use Rattle.outside.specs.Outside.{state_from}
-use borrow.Author.Rules.{rules}
 use Rattle.outside.proofs.state_from.Goals as goal
 
 pub returns : goal.returns

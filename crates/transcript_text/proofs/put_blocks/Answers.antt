@@ -6,7 +6,6 @@ use Rattle.text.specs.Page.{Page, put_text}
 use Rattle.text_rows.specs.Turns.{next}
 use Rattle.text.proofs.Pages.{put_then}
 use Rattle.transcript_text.specs.Superframe.{blocks_line}
-use borrow.Author.Rules.{rules}
 use Rattle.transcript_text.proofs.put_blocks.Goals as goal
 
 -- a number told by an equation

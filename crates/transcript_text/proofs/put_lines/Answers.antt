@@ -9,7 +9,6 @@ use Rattle.text.specs.Page.{Page, put_text}
 use Rattle.text.proofs.Pages.{put_then}
 use Rattle.frames_text.specs.Frames.{frames_text, frames_put}
 use Rattle.transcript_text.specs.Superframe.{superframe_text}
-use borrow.Author.Rules.{rules}
 use Rattle.transcript_text.proofs.put_lines.Goals as goal
 
 -- with 2,048 samples and marks all lines of the frames are put

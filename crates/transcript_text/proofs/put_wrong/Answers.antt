@@ -2,7 +2,6 @@
 use Rattle.bits.specs.Letters.{letters}
 use Rattle.text.proofs.Pages.{put_then}
 use Rattle.transcript_text.specs.Superframe.{sync_line}
-use borrow.Author.Rules.{rules}
 use Rattle.transcript_text.proofs.put_wrong.Goals as goal
 
 pub returns : goal.returns
