@@ -253,7 +253,7 @@ pub(crate) fn hand_batch(
     requires { first < count }
     ensures { (result.n ≤ 64) × (first + result.n ≤ count) }
 {
-    let mut pages = pages::blank();
+    let mut pages = pages::zeros::<532480>();
     let row = hand_row(rt, opened, &mut pages, start(going), first, count);
     let last = row.last;
     let n = row.k - first;

@@ -5,11 +5,11 @@ ghost use Rattle.std.specs.Prelude.{◌≡◌, ◌<◌, ◌≤◌, length};
 use crate::files;
 use crate::files::{Fault, Opened};
 
-// Pages in which nothing stands. Their contract gives only the length, which lending them needs.
-pub(crate) fn blank() -> [u8; 532480]
-    ensures { 532480 ≡ length result }
+// As many zeros. The contract says only how many they are, which is what lending them needs.
+pub(crate) fn zeros<const N: usize>() -> [u8; N]
+    ensures { N ≡ length result }
 {
-    [0; 532480]
+    [0; N]
 }
 
 // The bytes of superframe n, from 0, in all 32 parts; false where they find no room.
