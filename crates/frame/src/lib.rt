@@ -125,6 +125,7 @@ fn gather(bytes: &[u8], b: usize) -> [u8; 77]
 }
 
 // A block out of a whole main frame.
+#[tactic(auto, unfolding(crate::specs::Read::gathered_of))]
 pub fn block_of(bytes: &[u8], b: usize) -> Gathered
     ensures { result ≡ gathered_of bytes.now b }
 {
