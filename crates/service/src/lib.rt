@@ -47,6 +47,7 @@ pub fn searching() -> Service
 }
 
 // Position and stage have a range, the bytes have none.
+#[tactic(auto, unfolding(crate::specs::Service::in_range))]
 pub fn in_range(service: Service) -> bool
     ensures { result ≡ in_range service }
 {

@@ -56,6 +56,7 @@ pub fn write_labels(stage: u8, labels: [u8; 256], characters: [u8; 32]) -> [u8; 
     out
 }
 
+#[tactic(auto, unfolding(crate::specs::Six::stage_after))]
 pub fn stage_after(position: u8, stage: u8, group: [u8; 32]) -> u8
     ensures { result ≡ stage_after position stage group }
 {
@@ -74,6 +75,7 @@ pub fn stage_after(position: u8, stage: u8, group: [u8; 32]) -> u8
     0
 }
 
+#[tactic(auto, unfolding(crate::specs::Six::is_ready))]
 pub fn ready(position: u8, stage: u8) -> bool
     ensures { result ≡ is_ready position stage }
 {

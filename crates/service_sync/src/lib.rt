@@ -41,6 +41,7 @@ pub fn kind_of(sync: [u8; 16]) -> Kind
     Kind::Neither
 }
 
+#[tactic(auto, unfolding(crate::specs::Sync::is_open))]
 fn is_open(position: u8) -> bool
     ensures { result ≡ is_open position }
 {

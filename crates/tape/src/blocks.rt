@@ -86,6 +86,7 @@ fn no_quad(number: u8) -> Quad
 }
 
 // The same for any bytes, any radius and any place.
+#[tactic(auto, unfolding(crate::specs::Tape::quad_by, crate::specs::Tape::quad_number))]
 pub fn read_at(
     table: &[u32; 256],
     singles: &[u32; 63],

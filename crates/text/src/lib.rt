@@ -17,6 +17,7 @@ pub struct Placed {
 
 impl Placed {
     // For a text that starts at a place and ends at another, in a buffer of some length.
+    #[tactic(auto, unfolding(crate::specs::Entry::placed_within))]
     pub fn within(length: usize, to: usize, end: usize) -> Self
         ensures { result ≡ placed_within length to end }
     {
