@@ -30,6 +30,7 @@ pub enum Ended {
 }
 
 // By the superframes that a header promises, and those that were read.
+#[tactic(auto, unfolding(crate::specs::Word::ending_of))]
 pub fn ending_of(promised: u32, read: u64) -> Ended
     ensures { result ≡ ending_of promised read }
 {
@@ -75,6 +76,7 @@ pub fn put_word(out: &mut [u8], to: usize, ended: Ended) -> usize
 }
 
 // The descriptor that an argument names, 0 where it names none.
+#[tactic(auto, unfolding(crate::specs::Word::descriptor_of))]
 pub fn descriptor_of(argument: &[u8]) -> u8
     ensures { result ≡ descriptor_of argument.now }
 {

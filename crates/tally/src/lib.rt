@@ -99,6 +99,7 @@ impl Totals {
     }
 
     // One superframe more that was taken at a radius, by what was counted in it there and by its bytes: the listing counts the ordinary readings.
+    #[tactic(auto, unfolding(crate::specs::Totals::listed_with))]
     pub fn list(self, radius: u8, counted: Counted, superframe: &[u8]) -> Step
         ensures { result ≡ listed_with self radius counted superframe.now }
     {
