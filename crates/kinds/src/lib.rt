@@ -21,6 +21,7 @@ fn troubles(m: u8) -> bool
     4 < m
 }
 
+#[tactic(auto, unfolding(crate::specs::Kinds::kind_of))]
 fn kind_of(a: u8, b: u8) -> u8
     ensures { result ≡ kind_of a b }
 {

@@ -23,6 +23,7 @@ pub struct Labelled {
     pub noted: Labels,
 }
 
+#[tactic(auto, unfolding(bits::specs::Letters::letters))]
 fn put_side(out: &mut [u8], to: usize, c: u8) -> usize
     ensures { page out.new result ≡ put_text (page out.old to) (cond (eqb (c % 2) 0) (letters "L") (letters "R")) }
 {
@@ -43,6 +44,7 @@ pub fn put_head(out: &mut [u8], to: usize, k: u32, c: u8) -> usize
     put_side(out, programme, c)
 }
 
+#[tactic(auto, unfolding(crate::specs::Names::plain))]
 fn is_plain(x: u8) -> bool
     ensures { result ≡ plain x }
 {

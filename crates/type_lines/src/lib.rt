@@ -56,6 +56,7 @@ fn put_name(out: &mut [u8], to: usize, kind: u8) -> usize
     put_held(out, to, &letters)
 }
 
+#[tactic(auto, unfolding(bits::specs::Letters::letters))]
 fn put_manner(out: &mut [u8], to: usize, music: u8) -> usize
     ensures { page out.new result ≡ put_text (page out.old to) (cond (eqb music 0) (letters " speech") (letters " music")) }
 {

@@ -12,6 +12,7 @@ use text::Placed;
 use wav::number::put_two;
 
 // Number 1 where a superframe's list has not 2,048 elements, number 2 where there is no programme q, else 0.
+#[tactic(auto, unfolding(crate::specs::Sound::programme_number))]
 pub fn number_of(q: usize, n: usize) -> u8
     ensures { result ≡ programme_number q n }
 {
@@ -74,6 +75,7 @@ pub fn put_sound(out: &mut [u8], to: usize, q: usize, samples: &[i16]) -> Placed
     placed
 }
 
+#[tactic(auto, unfolding(crate::specs::Sound::mark_byte))]
 fn mark_byte(m: u8) -> u8
     ensures { result ≡ mark_byte m }
 {
