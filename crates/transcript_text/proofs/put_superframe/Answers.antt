@@ -38,6 +38,7 @@ pub returns : goal.returns
 returns c =
     let start = c.args in
     let s = superframe_text start.k start.taken start.samples.now start.marks.now in
-    told (page start.out.now start.to) _ _ _ _ _ c.if-samples-ne2048.false c.if-marks-ne2048.false
+    let enough = c.if-samples-ne2048.false in
+    told (page start.out.now start.to) _ _ _ _ _ enough c.if-marks-ne2048.false
     (entered-whole start.out.now _ s start.to _ c.put_lines-end.ensures _ c.within-placed.ensures _ (search rules) c.if-placed-ne0.false
     c.put_lines.ensures)
