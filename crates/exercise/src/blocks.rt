@@ -1,16 +1,16 @@
 // The calls on blocks.
+use crate::line_words;
 use crate::pages::Page;
-use crate::words;
 use block::BlockReading;
 
 pub(crate) fn write(line: &[u8], at: usize, mut page: Page) -> Page {
-    let first = words::read_signed(line, at);
-    let second = words::read_signed(line, first.next);
-    let third = words::read_signed(line, second.next);
-    let fourth = words::read_signed(line, third.next);
-    let left = words::read_small(line, fourth.next);
-    let right = words::read_small(line, left.next);
-    if !words::ended(line, right.next) {
+    let first = line_words::read_signed(line, at);
+    let second = line_words::read_signed(line, first.next);
+    let third = line_words::read_signed(line, second.next);
+    let fourth = line_words::read_signed(line, third.next);
+    let left = line_words::read_small(line, fourth.next);
+    let right = line_words::read_small(line, left.next);
+    if !line_words::ended(line, right.next) {
         return page;
     }
     let codes = [first.value, second.value, third.value, fourth.value];
@@ -34,9 +34,9 @@ fn told(reading: BlockReading) -> u8 {
 }
 
 pub(crate) fn read(line: &[u8], at: usize, mut page: Page) -> Page {
-    let radius = words::read_small(line, at);
-    let block = words::read_block(line, radius.next);
-    if !words::ended(line, block.next) {
+    let radius = line_words::read_small(line, at);
+    let block = line_words::read_block(line, radius.next);
+    if !line_words::ended(line, block.next) {
         return page;
     }
     let bits = block.bits;
@@ -53,8 +53,8 @@ pub(crate) fn read(line: &[u8], at: usize, mut page: Page) -> Page {
 }
 
 pub(crate) fn codes(line: &[u8], at: usize, mut page: Page) -> Page {
-    let block = words::read_block(line, at);
-    if !words::ended(line, block.next) {
+    let block = line_words::read_block(line, at);
+    if !line_words::ended(line, block.next) {
         return page;
     }
     let bits = block.bits;
@@ -69,6 +69,6 @@ pub(crate) fn codes(line: &[u8], at: usize, mut page: Page) -> Page {
     page = page.signed(codes[1]);
     page = page.signed(codes[2]);
     page = page.signed(codes[3]);
-    page = page.next(words::wide(extra[0]));
-    page.next(words::wide(extra[1]))
+    page = page.next(line_words::wide(extra[0]));
+    page.next(line_words::wide(extra[1]))
 }

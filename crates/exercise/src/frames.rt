@@ -1,6 +1,6 @@
 // The calls on main frames.
+use crate::line_words;
 use crate::pages::Page;
-use crate::words;
 use frame::{FrameRead, Letter};
 
 // The place behind a letter, and whether it is b.
@@ -11,7 +11,7 @@ struct Lettered {
 }
 
 fn read_letter(line: &[u8], at: usize) -> Lettered {
-    let a = words::read_mark(line, at, b'a');
+    let a = line_words::read_mark(line, at, b'a');
     if a != 0 {
         return Lettered {
             is_b: false,
@@ -20,7 +20,7 @@ fn read_letter(line: &[u8], at: usize) -> Lettered {
     }
     Lettered {
         is_b: true,
-        next: words::read_mark(line, at, b'b'),
+        next: line_words::read_mark(line, at, b'b'),
     }
 }
 
@@ -51,8 +51,8 @@ fn put_read(read: FrameRead, mut page: Page) -> Page {
 
 // With room for just the bytes that the word has.
 fn read_into(letter: Lettered, line: &[u8], bytes: &mut [u8], page: Page) -> Page {
-    let next = words::read_bytes(line, letter.next, bytes);
-    if !words::ended(line, next) {
+    let next = line_words::read_bytes(line, letter.next, bytes);
+    if !line_words::ended(line, next) {
         return page;
     }
     put_read(frame::read(letter_of(letter.is_b), bytes), page)
@@ -60,7 +60,7 @@ fn read_into(letter: Lettered, line: &[u8], bytes: &mut [u8], page: Page) -> Pag
 
 pub(crate) fn read(line: &[u8], at: usize, page: Page) -> Page {
     let letter = read_letter(line, at);
-    let n = words::bytes_in(line, letter.next);
+    let n = line_words::bytes_in(line, letter.next);
     if 64 < n {
         return page;
     }
@@ -87,10 +87,10 @@ struct Blocks {
 }
 
 fn read_blocks(line: &[u8], at: usize) -> Blocks {
-    let one = words::read_block(line, at);
-    let two = words::read_block(line, one.next);
-    let three = words::read_block(line, two.next);
-    let four = words::read_block(line, three.next);
+    let one = line_words::read_block(line, at);
+    let two = line_words::read_block(line, one.next);
+    let three = line_words::read_block(line, two.next);
+    let four = line_words::read_block(line, three.next);
     let first = one.bits;
     let second = two.bits;
     let third = three.bits;
@@ -119,11 +119,11 @@ fn put_lent(is_b: bool, service: u8, blocks: Blocks, lent: &mut [u8], page: Page
 
 pub(crate) fn write(line: &[u8], at: usize, page: Page) -> Page {
     let letter = read_letter(line, at);
-    let service = words::read_small(line, letter.next);
+    let service = line_words::read_small(line, letter.next);
     let blocks = read_blocks(line, service.next);
-    let length = words::read_number(line, blocks.next, 64);
-    let fill = words::read_small(line, length.next);
-    if !words::ended(line, fill.next) {
+    let length = line_words::read_number(line, blocks.next, 64);
+    let fill = line_words::read_small(line, length.next);
+    if !line_words::ended(line, fill.next) {
         return page;
     }
     let n = length.value as usize;

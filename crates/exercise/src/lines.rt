@@ -1,12 +1,12 @@
 // A line, answered.
+use crate::line_words::Name;
 use crate::pages::Page;
 use crate::samples::Way;
-use crate::words::Name;
-use crate::{blocks, frames, programmes, reels, samples, scales, states, takes, words};
+use crate::{blocks, frames, line_words, programmes, reels, samples, scales, states, takes};
 
 // Which of the calls a line names, in the order of what follows.
 fn name_of(line: &[u8]) -> Name {
-    words::named(
+    line_words::named(
         line,
         b" bwrite bread bcodes fwrite fread code sample codes samples factor swrite sread sextra pread pwrite name header run part fresh lose reset service take",
     )

@@ -17,7 +17,7 @@ mod states; // states.rt: fresh, lose, reset, service
 mod sums; // sums.rt: what stands for a long list in an answer
 mod takes; // takes.rt: take
 mod totals; // totals.rt: the words of running totals
-mod words; // words.rt: the words of a line
+mod line_words; // line_words.rt: the words of a line
 
 use std::io;
 use std::io::{Read, Write};

@@ -1,11 +1,11 @@
 // The calls on programme bytes and names.
+use crate::line_words;
 use crate::pages::Page;
-use crate::words;
 use programme::{ByteRead, ByteWritten};
 
 pub(crate) fn read(line: &[u8], at: usize, mut page: Page) -> Page {
-    let byte = words::read_small(line, at);
-    if !words::ended(line, byte.next) {
+    let byte = line_words::read_small(line, at);
+    if !line_words::ended(line, byte.next) {
         return page;
     }
     match programme::read(byte.value) {
@@ -20,10 +20,10 @@ pub(crate) fn read(line: &[u8], at: usize, mut page: Page) -> Page {
 }
 
 pub(crate) fn write(line: &[u8], at: usize, mut page: Page) -> Page {
-    let kind = words::read_small(line, at);
-    let music = words::read_small(line, kind.next);
-    let mode = words::read_small(line, music.next);
-    if !words::ended(line, mode.next) {
+    let kind = line_words::read_small(line, at);
+    let music = line_words::read_small(line, kind.next);
+    let mode = line_words::read_small(line, music.next);
+    if !line_words::ended(line, mode.next) {
         return page;
     }
     match programme::write(kind.value, music.value, mode.value) {
@@ -36,8 +36,8 @@ pub(crate) fn write(line: &[u8], at: usize, mut page: Page) -> Page {
 }
 
 pub(crate) fn name(line: &[u8], at: usize, mut page: Page) -> Page {
-    let kind = words::read_small(line, at);
-    if !words::ended(line, kind.next) {
+    let kind = line_words::read_small(line, at);
+    if !line_words::ended(line, kind.next) {
         return page;
     }
     let name = programme::name_of(kind.value);

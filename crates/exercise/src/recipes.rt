@@ -3,7 +3,7 @@
 // blocks, that in scale words, the place of a byte in two, and its bits that are turned.
 ghost use Rattle.std.specs.Prelude.{◌≡◌, ◌<◌, length};
 
-use crate::{draws, frames, signs, words};
+use crate::{draws, frames, line_words, signs};
 
 fn code_at(seed: u64, place: usize) -> i16
     requires { place < 65536 }
@@ -60,9 +60,9 @@ fn written_at(seed: u64, rate: u8, n: usize, b: usize) -> [u8; 77]
 fn block_at(seed: u64, recipe: &[u8], n: usize, b: usize) -> [u8; 77]
     requires { (n < 128) × (b < 4) }
 {
-    let rate = words::byte_at(recipe, 8);
+    let rate = line_words::byte_at(recipe, 8);
     let name = draws::BLOCK + 256 * n + 64 * b;
-    let mut bits = written_at(seed, words::byte_at(recipe, 9), n, b);
+    let mut bits = written_at(seed, line_words::byte_at(recipe, 9), n, b);
     let mut k: usize = 0;
     while k < 63 {
         bits[k] = bits[k] ^ draws::turn(seed, name + k, rate);
@@ -72,7 +72,7 @@ fn block_at(seed: u64, recipe: &[u8], n: usize, b: usize) -> [u8; 77]
 }
 
 fn service_at(recipe: &[u8], n: usize) -> u8 {
-    (words::byte_at(recipe, n % 64 / 8) >> (7 - n % 8)) % 2
+    (line_words::byte_at(recipe, n % 64 / 8) >> (7 - n % 8)) % 2
 }
 
 fn write_frame(seed: u64, recipe: &[u8], n: usize, out: &mut [u8])
@@ -109,8 +109,8 @@ fn turn_at(out: &mut [u8; 10240], at: usize, bits: u8) {
 pub(crate) fn made(seed: u64, recipe: &[u8]) -> [u8; 10240] {
     let mut bytes = [0u8; 10240];
     write_frames(seed, recipe, &mut bytes);
-    let high = words::byte_at(recipe, 10) as usize;
-    let at = 256 * high + (words::byte_at(recipe, 11) as usize);
-    turn_at(&mut bytes, at, words::byte_at(recipe, 12));
+    let high = line_words::byte_at(recipe, 10) as usize;
+    let at = 256 * high + (line_words::byte_at(recipe, 11) as usize);
+    turn_at(&mut bytes, at, line_words::byte_at(recipe, 12));
     bytes
 }

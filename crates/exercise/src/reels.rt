@@ -1,6 +1,6 @@
 // The calls on headers and runs.
+use crate::line_words;
 use crate::pages::Page;
-use crate::words;
 use reel::{HeaderRead, RunCount};
 
 fn put_header(bytes: &[u8], mut page: Page) -> Page {
@@ -16,15 +16,15 @@ fn put_header(bytes: &[u8], mut page: Page) -> Page {
 
 // With room for just the bytes that the word has.
 fn header_into(line: &[u8], at: usize, bytes: &mut [u8], page: Page) -> Page {
-    let next = words::read_bytes(line, at, bytes);
-    if !words::ended(line, next) {
+    let next = line_words::read_bytes(line, at, bytes);
+    if !line_words::ended(line, next) {
         return page;
     }
     put_header(bytes, page)
 }
 
 pub(crate) fn header(line: &[u8], at: usize, page: Page) -> Page {
-    let n = words::bytes_in(line, at);
+    let n = line_words::bytes_in(line, at);
     if 64 < n {
         return page;
     }
@@ -43,8 +43,8 @@ fn put_count(run: &[u8], mut page: Page) -> Page {
 }
 
 pub(crate) fn run(line: &[u8], at: usize, page: Page) -> Page {
-    let length = words::read_number(line, at, 20480);
-    if !words::ended(line, length.next) {
+    let length = line_words::read_number(line, at, 20480);
+    if !line_words::ended(line, length.next) {
         return page;
     }
     let n = length.value as usize;
@@ -68,7 +68,7 @@ fn put_part(run: &[u8], k: usize, mut page: Page) -> Page {
     if part.len() == 0 {
         return page;
     }
-    page.next(words::wide(part[0]) * 80)
+    page.next(line_words::wide(part[0]) * 80)
 }
 
 fn put_marked(run: &mut [u8], k: usize, page: Page) -> Page {
@@ -77,9 +77,9 @@ fn put_marked(run: &mut [u8], k: usize, page: Page) -> Page {
 }
 
 pub(crate) fn part(line: &[u8], at: usize, page: Page) -> Page {
-    let length = words::read_number(line, at, 20480);
-    let k = words::read_number(line, length.next, words::MOST);
-    if !words::ended(line, k.next) {
+    let length = line_words::read_number(line, at, 20480);
+    let k = line_words::read_number(line, length.next, line_words::MOST);
+    if !line_words::ended(line, k.next) {
         return page;
     }
     let n = length.value as usize;

@@ -2,7 +2,7 @@
 ghost use Rattle.std.specs.Prelude.{◌<◌};
 
 use crate::pages::Page;
-use crate::{signs, sums, words};
+use crate::{line_words, signs, sums};
 use sample::{Chosen, Coded, Sampled};
 
 #[derive(Clone, Copy)]
@@ -44,9 +44,9 @@ fn asked(way: Way, n: i16, factor: u8) -> Answer {
 }
 
 pub(crate) fn single(way: Way, line: &[u8], at: usize, mut page: Page) -> Page {
-    let n = words::read_signed(line, at);
-    let factor = words::read_small(line, n.next);
-    if !words::ended(line, factor.next) {
+    let n = line_words::read_signed(line, at);
+    let factor = line_words::read_small(line, n.next);
+    if !line_words::ended(line, factor.next) {
         return page;
     }
     let answer = asked(way, n.value, factor.value);
@@ -81,15 +81,15 @@ fn sum_of(way: Way, factor: u8, start: u64, end: u64) -> u64
 }
 
 pub(crate) fn swept(way: Way, line: &[u8], at: usize, mut page: Page) -> Page {
-    let factor = words::read_small(line, at);
-    let first = words::read_signed(line, factor.next);
-    let count = words::read_number(line, first.next, 4096);
+    let factor = line_words::read_small(line, at);
+    let first = line_words::read_signed(line, factor.next);
+    let count = line_words::read_number(line, first.next, 4096);
     let start = signs::shifted(first.value);
     let end = start + count.value;
     if 65536 < end {
         return page;
     }
-    if !words::ended(line, count.next) {
+    if !line_words::ended(line, count.next) {
         return page;
     }
     let sum = sum_of(way, factor.value, start, end);
@@ -102,10 +102,10 @@ fn read_samples(line: &[u8], at: usize, samples: &mut [i16]) -> usize {
     let mut next = at;
     let mut count: usize = 0;
     while count < samples.len() {
-        if words::ended(line, next) {
+        if line_words::ended(line, next) {
             return count;
         }
-        let n = words::read_signed(line, next);
+        let n = line_words::read_signed(line, next);
         if n.next == 0 {
             return 0;
         }
@@ -114,7 +114,11 @@ fn read_samples(line: &[u8], at: usize, samples: &mut [i16]) -> usize {
         next = n.next;
         count += 1;
     }
-    if words::ended(line, next) { count } else { 0 }
+    if line_words::ended(line, next) {
+        count
+    } else {
+        0
+    }
 }
 
 fn chosen(samples: &[i16], mut page: Page) -> Page {
@@ -129,7 +133,7 @@ fn chosen(samples: &[i16], mut page: Page) -> Page {
 
 pub(crate) fn factor(line: &[u8], at: usize, page: Page) -> Page {
     let mut samples = [0i16; 80];
-    if words::ended(line, words::read_mark(line, at, b'-')) {
+    if line_words::ended(line, line_words::read_mark(line, at, b'-')) {
         return chosen(&samples[0..0], page);
     }
     let count = read_samples(line, at, &mut samples);

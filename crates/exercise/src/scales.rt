@@ -1,12 +1,12 @@
 // The calls on scale words and extra bits.
+use crate::line_words;
 use crate::pages::Page;
-use crate::words;
 use nearest::Reading;
 
 pub(crate) fn write(line: &[u8], at: usize, mut page: Page) -> Page {
-    let left = words::read_small(line, at);
-    let right = words::read_small(line, left.next);
-    if !words::ended(line, right.next) {
+    let left = line_words::read_small(line, at);
+    let right = line_words::read_small(line, left.next);
+    if !line_words::ended(line, right.next) {
         return page;
     }
     let written = scale::write(left.value, right.value);
@@ -20,8 +20,8 @@ pub(crate) fn write(line: &[u8], at: usize, mut page: Page) -> Page {
 
 pub(crate) fn read(line: &[u8], at: usize, mut page: Page) -> Page {
     let mut bits = [0u8; 42];
-    let next = words::read_row(line, at, &mut bits);
-    if !words::ended(line, next) {
+    let next = line_words::read_row(line, at, &mut bits);
+    if !line_words::ended(line, next) {
         return page;
     }
     match nearest::read(bits) {
@@ -38,8 +38,8 @@ pub(crate) fn read(line: &[u8], at: usize, mut page: Page) -> Page {
 
 pub(crate) fn extra(line: &[u8], at: usize, mut page: Page) -> Page {
     let mut bits = [0u8; 64];
-    let next = words::read_row(line, at, &mut bits);
-    if !words::ended(line, next) {
+    let next = line_words::read_row(line, at, &mut bits);
+    if !line_words::ended(line, next) {
         return page;
     }
     let answer = nearest::read_extra(bits);

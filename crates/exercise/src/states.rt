@@ -1,7 +1,7 @@
 // The calls on the reader's state.
+use crate::line_words::Small;
 use crate::pages::Page;
-use crate::words::Small;
-use crate::{totals, words};
+use crate::{line_words, totals};
 use superframe::State;
 
 // A state, and the place behind its eleven words.
@@ -20,13 +20,13 @@ struct Channels {
 
 fn read_channels(line: &[u8], at: usize) -> Channels {
     let mut bytes = [0u8; 32];
-    let next = words::read_hex(line, at, &mut bytes);
+    let next = line_words::read_hex(line, at, &mut bytes);
     Channels { bytes, next }
 }
 
 fn read_byte(line: &[u8], at: usize) -> Small {
     let mut byte = [0u8; 1];
-    let next = words::read_hex(line, at, &mut byte);
+    let next = line_words::read_hex(line, at, &mut byte);
     Small {
         value: byte[0],
         next,
@@ -40,7 +40,7 @@ pub(crate) fn read_state(line: &[u8], at: usize) -> Read {
     let stage = read_byte(line, position.next);
     let of_group = read_channels(line, stage.next);
     let mut labels = [0u8; 256];
-    let behind = words::read_hex(line, of_group.next, &mut labels);
+    let behind = line_words::read_hex(line, of_group.next, &mut labels);
     let counted = totals::read(line, behind);
     let next = of_next.bytes;
     let after = of_after.bytes;
@@ -89,7 +89,7 @@ pub(crate) fn put_state(mut page: Page, state: State) -> Page {
 }
 
 pub(crate) fn fresh(line: &[u8], at: usize, mut page: Page) -> Page {
-    if !words::ended(line, at) {
+    if !line_words::ended(line, at) {
         return page;
     }
     page = page.put(b'0');
@@ -98,7 +98,7 @@ pub(crate) fn fresh(line: &[u8], at: usize, mut page: Page) -> Page {
 
 pub(crate) fn lose(line: &[u8], at: usize, mut page: Page) -> Page {
     let read = read_state(line, at);
-    if !words::ended(line, read.next) {
+    if !line_words::ended(line, read.next) {
         return page;
     }
     let state = read.state;
@@ -110,7 +110,7 @@ pub(crate) fn lose(line: &[u8], at: usize, mut page: Page) -> Page {
 
 pub(crate) fn reset(line: &[u8], at: usize, mut page: Page) -> Page {
     let read = read_state(line, at);
-    if !words::ended(line, read.next) {
+    if !line_words::ended(line, read.next) {
         return page;
     }
     let state = read.state;
@@ -146,9 +146,9 @@ pub(crate) fn service(line: &[u8], at: usize, page: Page) -> Page {
     let read = read_state(line, at);
     let mut six = [0u8; 6];
     let mut sync = [0u8; 16];
-    let next = words::read_hex(line, read.next, &mut six);
-    let next = words::read_row(line, next, &mut sync);
-    if !words::ended(line, next) {
+    let next = line_words::read_hex(line, read.next, &mut six);
+    let next = line_words::read_row(line, next, &mut sync);
+    if !line_words::ended(line, next) {
         return page;
     }
     let state = read.state;

@@ -1,7 +1,7 @@
 // Sums that tell values and their order: 0, and with each value 31 times the sum so far and the value, in 32 bits.
 ghost use Rattle.std.specs.Prelude.{◌<◌};
 
-use crate::{signs, words};
+use crate::{line_words, signs};
 
 pub(crate) fn added(sum: u64, value: u64) -> u64
     requires { (sum < 4294967296) × (value < 4294967296) }
@@ -14,7 +14,7 @@ pub(crate) fn of_bytes(bytes: &[u8]) -> u64 {
     let mut sum: u64 = 0;
     let mut i: usize = 0;
     while i < bytes.len() {
-        sum = added(sum, words::wide(bytes[i]));
+        sum = added(sum, line_words::wide(bytes[i]));
         i += 1;
     }
     sum

@@ -2,7 +2,7 @@
 ghost use Rattle.std.specs.Prelude.{◌≡◌, ◌≤◌, length};
 
 use crate::pages::Page;
-use crate::{recipes, states, sums, words};
+use crate::{line_words, recipes, states, sums};
 use beside::Programmes;
 use superframe::{State, Taken};
 use tape::Blocks;
@@ -19,9 +19,9 @@ struct Lengths {
 fn read_lengths(line: &[u8], at: usize) -> Lengths
     ensures { (result.bytes ≤ 10240) × (result.samples ≤ 4096) × (result.marks ≤ 4096) }
 {
-    let bytes = words::read_number(line, at, 10240);
-    let samples = words::read_number(line, bytes.next, 4096);
-    let marks = words::read_number(line, samples.next, 4096);
+    let bytes = line_words::read_number(line, at, 10240);
+    let samples = line_words::read_number(line, bytes.next, 4096);
+    let marks = line_words::read_number(line, samples.next, 4096);
     Lengths {
         bytes: bytes.value as usize,
         samples: samples.value as usize,
@@ -104,13 +104,13 @@ fn take_lent(radius: u8, state: State, lengths: Lengths, bytes: &[u8], mut page:
 }
 
 pub(crate) fn take(line: &[u8], at: usize, page: Page) -> Page {
-    let radius = words::read_small(line, at);
+    let radius = line_words::read_small(line, at);
     let lengths = read_lengths(line, radius.next);
-    let seed = words::read_number(line, lengths.next, words::MOST);
+    let seed = line_words::read_number(line, lengths.next, line_words::MOST);
     let mut recipe = [0u8; 13];
-    let behind = words::read_hex(line, seed.next, &mut recipe);
+    let behind = line_words::read_hex(line, seed.next, &mut recipe);
     let read = states::read_state(line, behind);
-    if !words::ended(line, read.next) {
+    if !line_words::ended(line, read.next) {
         return page;
     }
     let state = read.state;

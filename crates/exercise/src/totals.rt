@@ -1,7 +1,7 @@
 // The words of running totals, the last five of a state: how many superframes were taken and lost, and a number of 32 bits for each programme, its higher
 // byte first.
+use crate::line_words;
 use crate::pages::Page;
-use crate::words;
 use running::Running;
 
 // Totals, and the place behind their words.
@@ -19,8 +19,8 @@ struct Numbers {
 }
 
 fn joined(a: u8, b: u8, c: u8, d: u8) -> u32 {
-    let high = words::wide(a) * 256 + words::wide(b);
-    let low = words::wide(c) * 256 + words::wide(d);
+    let high = line_words::wide(a) * 256 + line_words::wide(b);
+    let low = line_words::wide(c) * 256 + line_words::wide(d);
     (high * 65536 + low) as u32
 }
 
@@ -42,14 +42,14 @@ fn numbers_of(bytes: [u8; 64]) -> [u32; 16] {
 
 fn read_numbers(line: &[u8], at: usize) -> Numbers {
     let mut bytes = [0u8; 64];
-    let next = words::read_hex(line, at, &mut bytes);
+    let next = line_words::read_hex(line, at, &mut bytes);
     let numbers = numbers_of(bytes);
     Numbers { numbers, next }
 }
 
 pub(crate) fn read(line: &[u8], at: usize) -> Counted {
-    let taken = words::read_large(line, at);
-    let lost = words::read_large(line, taken.next);
+    let taken = line_words::read_large(line, at);
+    let lost = line_words::read_large(line, taken.next);
     let of_clean = read_numbers(line, lost.next);
     let of_mended = read_numbers(line, of_clean.next);
     let of_bad = read_numbers(line, of_mended.next);

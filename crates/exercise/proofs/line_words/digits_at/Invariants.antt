@@ -1,7 +1,7 @@
--- `exercise::words::digits_at` is safe and ends. A number of which one more digit is taken is at most 4,294,967,295, so that the next fits. Assumes nothing.
+-- `exercise::line_words::digits_at` is safe and ends. A number of which one more digit is taken is at most 4,294,967,295, so that the next fits. Assumes nothing.
 use Prim.Native.Nat.{◌-◌, ◌≤◌}
 use lib.ListN.{length}
-use Rattle.exercise.proofs.words.digits_at.Given as goal
+use Rattle.exercise.proofs.line_words.digits_at.Given as goal
 
 abbrev pub invariant-loop-end : goal.invariant-loop-end
 invariant-loop-end l = l.value ≤ 42949672959

@@ -1,7 +1,7 @@
--- `exercise::words::after_name` is safe and ends. Assumes nothing.
+-- `exercise::line_words::after_name` is safe and ends. Assumes nothing.
 use Prim.Native.Nat.{◌-◌, ◌≤◌}
 use lib.ListN.{length}
-use Rattle.exercise.proofs.words.after_name.Given as goal
+use Rattle.exercise.proofs.line_words.after_name.Given as goal
 
 abbrev pub invariant-loop-i : goal.invariant-loop-i
 invariant-loop-i l = l.i ≤ length l.name

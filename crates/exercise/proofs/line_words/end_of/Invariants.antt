@@ -1,7 +1,7 @@
--- `exercise::words::end_of` meets its contract and ends. Assumes nothing.
+-- `exercise::line_words::end_of` meets its contract and ends. Assumes nothing.
 use Prim.Native.Nat.{◌-◌, ◌≤◌}
 use lib.ListN.{length}
-use Rattle.exercise.proofs.words.end_of.Given as goal
+use Rattle.exercise.proofs.line_words.end_of.Given as goal
 
 abbrev pub invariant-loop-end : goal.invariant-loop-end
 invariant-loop-end l = (l.at ≤ l.end) × (l.at ≤ length l.line → l.end ≤ length l.line)

@@ -1,7 +1,7 @@
--- `exercise::words::named` is safe and ends: each turn begins behind the name before. Assumes nothing.
+-- `exercise::line_words::named` is safe and ends: each turn begins behind the name before. Assumes nothing.
 use Prim.Native.Nat.{◌-◌, ◌≤◌}
 use lib.ListN.{length}
-use Rattle.exercise.proofs.words.named.Given as goal
+use Rattle.exercise.proofs.line_words.named.Given as goal
 
 abbrev pub invariant-loop-start : goal.invariant-loop-start
 invariant-loop-start l = (l.number ≤ l.start) × (l.start ≤ length l.names)
