@@ -1,8 +1,8 @@
 // What stands at a descriptor that the program was started with, by the name that the system gives it.
-use std::fs;
-use std::fs::OpenOptions;
-use std::os::unix::fs::MetadataExt;
+use std::fs::{File, OpenOptions};
+use std::os::unix::fs::{FileTypeExt, MetadataExt};
 use std::rt::Files;
+use std::{fs, io};
 
 // The name of what stands at a descriptor from 3 to 9.
 fn path_of(fd: u8) -> &'static str {
@@ -25,13 +25,30 @@ fn is_open_for_writing<R: Files>(files: &R, path: &str) -> bool {
     }
 }
 
+fn is_pipe<R: Files>(files: &R, path: &str) -> bool {
+    match fs::metadata(files, path) {
+        Ok(metadata) => metadata.file_type().is_fifo(),
+        Err(_) => false,
+    }
+}
+
+// Opens what stands there, to be written behind its end. A named pipe that nobody reads would keep the program waiting: so
+// the program itself stands as a reader until the pipe is open, and what it then writes fails where there is no other.
+fn open<R: Files>(files: &R, path: &str) -> io::Result<R::File> {
+    if is_pipe(files, path) {
+        let _reader = File::open(files, path)?;
+        return OpenOptions::new().append(true).open(files, path);
+    }
+    OpenOptions::new().append(true).open(files, path)
+}
+
 // Writes the first bytes of a page behind what stands there, and nothing where that cannot be.
 pub(crate) fn write_first<R: Files>(files: &R, fd: u8, page: &[u8], end: usize) {
     let path = path_of(fd);
     if !is_open_for_writing(files, path) {
         return;
     }
-    match OpenOptions::new().append(true).open(files, path) {
+    match open(files, path) {
         Ok(mut file) => {
             streams::write_first(&mut file, page, end);
         }
