@@ -1,5 +1,6 @@
 pub mod Tests
 pub mod Table
+pub mod Made
 pub mod Every
 pub mod Digits
 pub mod Bits
@@ -7,4 +8,5 @@ pub mod Ones
 pub mod Printed
 pub mod Order
 pub mod Answer
+pub mod Refused
 pub mod Unique

@@ -52,6 +52,9 @@ module _ {A : Type 0} where
       ext_get_or d l (tabulate n (λ i. get_or l i d)) (e ∙ sym (length-tab n (λ i. get_or l i d)))
       (λ i h. sym (get_or-tab n (λ i. get_or l i d) i d (subst (λ (k : ℕ). i < k) e h)))
 
+  pub tab-made : (n : ℕ) (f : ℕ → A) (l : List A) (d : A) → length l ≡ n → ((i : ℕ) → i < n → get_or l i d ≡ f i) → l ≡ tabulate n f
+  tab-made n f l d e each = tab-get_or n l d e ∙ tab-ext n (λ i. get_or l i d) f each
+
   -- ---- a loop that fills an array
   pub tab-more : (f : ℕ → A) (l : List A) (i : ℕ) (v : A) → i < length l → take i l ≡ tabulate i f → v ≡ f i → take (i + 1) (set l i v) ≡ tabulate (i + 1) f
   unfolding tabulate

@@ -7,6 +7,8 @@ use mathlib.Core.Bool.{Bool}
 use mathlib.Core.List.{List}
 use Prim.Native.Nat.{ℕ, ◌<◌}
 use lib.ListN.{get_or}
+use Rattle.bits.specs.declared.refusal.Refusal.{Refusal}
+use Rattle.bits.specs.Refused.{number_of}
 use Rattle.bits.specs.Bits.{bit_at, byte_at, all_below, are_bits}
 
 pub same : {A : Type 0} {r r' v : A} → r ≡ v → r' ≡ v → r ≡ r'
@@ -33,3 +35,6 @@ are-bits-unique r r' l = same
 
 pub all-below-unique : (r r' : Bool) (b : ℕ) (l : List ℕ) → r ≡ all_below b l → r' ≡ all_below b l → r ≡ r'
 all-below-unique r r' b l = same
+
+pub number-unique : (r r' : ℕ) (e : Refusal) → r ≡ number_of e → r' ≡ number_of e → r ≡ r'
+number-unique r r' e = same

@@ -5,3 +5,4 @@ pub mod Answer
 pub mod Letters
 pub mod Order
 pub mod Printed
+pub mod Refused

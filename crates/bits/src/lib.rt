@@ -1,8 +1,12 @@
 // Bits of bytes and bytes of bits (docs/FORMAT.md, "Path of a reel"). Every function takes any slice and any place, and says what it gives past the end.
 #![tactic(auto)]
 
+mod refusal; // refusal.rt: what a call is refused for
+
 ghost use Rattle.std.specs.Prelude.{◌≡◌, ◌+◌, ◌%◌, ◌<◌, get_or};
 ghost use Rattle.bits.specs.Bits.{bit_at, byte_at, all_below, are_bits};
+
+pub use refusal::Refusal;
 
 // Byte i, and 0 past the end.
 pub fn byte_of(bytes: &[u8], i: usize) -> u8
@@ -44,10 +48,8 @@ pub fn byte_from(bits: &[u8], at: usize) -> u8
     ensures { result ≡ byte_at bits.now at }
 {
     let mut sum: u8 = 0;
-    let mut j: usize = 0;
-    while j < 8 {
+    for j in 0..8 {
         sum = sum * 2 + bit_behind(bits, at, j);
-        j += 1;
     }
     sum
 }
@@ -56,12 +58,10 @@ pub fn byte_from(bits: &[u8], at: usize) -> u8
 pub fn all_below(list: &[u8], bound: u8) -> bool
     ensures { result ≡ all_below bound list.now }
 {
-    let mut i: usize = 0;
-    while i < list.len() {
-        if bound <= list[i] {
+    for &x in list {
+        if bound <= x {
             return false;
         }
-        i += 1;
     }
     true
 }

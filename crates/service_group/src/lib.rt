@@ -31,11 +31,7 @@ fn channel_byte(position: u8, group: &[u8; 32], six: &[u8; 6], i: usize) -> u8
 pub fn gather(position: u8, group: [u8; 32], six: [u8; 6]) -> [u8; 32]
     ensures { result ≡ group_after position group six }
 {
-    let mut out = [0u8; 32];
-    for i in 0..32usize {
-        out[i] = channel_byte(position, &group, &six, i);
-    }
-    out
+    std::array::from_fn(|i| channel_byte(position, &group, &six, i))
 }
 
 fn label_byte(stage: u8, labels: &[u8; 256], characters: &[u8; 32], i: usize) -> u8

@@ -13,29 +13,29 @@ use Rattle.bits.proofs.Every.{every_take, every-fails}
 use borrow.Author.Rules.{rules}
 use Rattle.bits.proofs.all_below.Goals as goal
 
-pub loop-i-init : goal.loop-i-init
+pub loop-x-init : goal.loop-x-init
 unfolding every
-loop-i-init c = (search rules, refl)
+loop-x-init c = (search rules, refl)
 
-pub returns-then-bound-list : goal.returns-then-bound-list
+pub returns-then-bound-x : goal.returns-then-bound-x
 unfolding all_below
-returns-then-bound-list c =
+returns-then-bound-x c =
     let l : List ℕ = c.args.list.now in
     let b : ℕ = c.args.bound in
-    let i : ℕ = c.loop-i.i in
+    let i : ℕ = c.loop-x.x-index in
     sym (every-fails (λ x. ltb x b) l i 0 (omega arith) (le-ltb (get_or l i 0) b (omega arith)))
 
-pub loop-i-preserved : goal.loop-i-preserved
-loop-i-preserved c =
+pub loop-x-preserved : goal.loop-x-preserved
+loop-x-preserved c =
     let l : List ℕ = c.args.list.now in
     let b : ℕ = c.args.bound in
-    let i : ℕ = c.loop-i.i in
-    (search rules, rw (every_take (λ x. ltb x b) l i 0 (omega arith), c.loop-i.invariant.1, lt-ltb (get_or l i 0) b (omega arith)))
+    let i : ℕ = c.loop-x.x-index in
+    (search rules, rw (every_take (λ x. ltb x b) l i 0 (omega arith), c.loop-x.invariant.1, lt-ltb (get_or l i 0) b (omega arith)))
 
 pub returns : goal.returns
 unfolding all_below
 returns c =
     let l : List ℕ = c.args.list.now in
     let b : ℕ = c.args.bound in
-    let all : take c.loop-i.i l ≡ l = take_all c.loop-i.i l (omega arith) in
-    sym (ap (every (λ x. ltb x b)) (sym all) ∙ c.loop-i.invariant.1)
+    let all : take c.loop-x.x-index l ≡ l = take_all c.loop-x.x-index l (omega arith) in
+    sym (ap (every (λ x. ltb x b)) (sym all) ∙ c.loop-x.invariant.1)
