@@ -6,15 +6,15 @@
 --     seven t m o              the bits of a type, a music bit and a mode
 --     made t m o               the byte that begins with them, its last bit such that the number of ones is even
 --     read_byte, write_byte      what reading a byte answers, and writing one
---     read_answer, write_answer  the number and the values that each case of the code's answer stands for
+--     read_answer, write_answer  the number and the values that the code's answer stands for
 use Rattle.std.specs.Prelude.{ℕ, ◌%◌, Bool, cond, ◌&&◌, List, [], ◌∷◌, ◌++◌, eqb, leb, take, drop}
 use Rattle.bits.specs.Digits.{value, digits}
 use Rattle.bits.specs.Bits.{ones}
 use Rattle.bits.specs.Answer.{Answer, accepted, refused}
-use Rattle.programme.specs.declared.ByteRead.{ByteRead}
-use Rattle.programme.specs.declared.ByteRead.TheVariants.{Programme, Odd}
-use Rattle.programme.specs.declared.ByteWritten.{ByteWritten}
-use Rattle.programme.specs.declared.ByteWritten.TheVariants.{Byte, OutOfRange}
+use Rattle.bits.specs.Refused.{told}
+use Rattle.bits.specs.declared.refusal.Refusal.{Refusal}
+use Rattle.std.specs.declared.result.Result.{Result}
+use Rattle.programme.specs.declared.Programme.{Programme}
 
 abbrev pub eight : ℕ → List ℕ
 eight b = digits 2 8 b
@@ -45,10 +45,8 @@ read_byte b = cond (even b) (accepted (kind b ∷ music b ∷ mode b ∷ [])) (r
 unfoldable pub write_byte : ℕ → ℕ → ℕ → Answer ℕ
 write_byte t m o = cond (leb t 15 && (leb m 1 && leb o 3)) (accepted (made t m o ∷ [])) (refused 2)
 
-abbrev pub read_answer : ByteRead → Answer ℕ
-read_answer (Programme t m o) = accepted (t ∷ m ∷ o ∷ [])
-read_answer Odd = refused 6
+abbrev pub read_answer : Result Programme Refusal → Answer ℕ
+read_answer r = told (λ (p : Programme). p.kind ∷ p.music ∷ p.mode ∷ []) r
 
-abbrev pub write_answer : ByteWritten → Answer ℕ
-write_answer (Byte b) = accepted (b ∷ [])
-write_answer OutOfRange = refused 2
+abbrev pub write_answer : Result ℕ Refusal → Answer ℕ
+write_answer r = told (λ b. b ∷ []) r

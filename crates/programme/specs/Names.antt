@@ -8,9 +8,12 @@
 use Rattle.std.specs.Prelude.{ℕ, ◌-◌, Bool, cond, ◌&&◌, ◌||◌, List, [], ◌∷◌, ◌++◌, ltb, leb, eqb, length, get_or, replicate}
 use Prim.Native.Char.{code}
 use Prim.Native.String.{String}
-use Rattle.bits.specs.Table.{every, zeros}
+use Rattle.std.specs.declared.result.Result.{Result}
+use Rattle.std.specs.declared.result.Result.TheVariants.{Ok, Err}
+use Rattle.bits.specs.Table.{every}
 use Rattle.bits.specs.Letters.{letters}
-use Rattle.programme.specs.declared.Name.{Name}
+use Rattle.bits.specs.declared.refusal.Refusal.{Refusal}
+use Rattle.bits.specs.declared.refusal.Refusal.TheVariants.{Range}
 
 unfoldable pub names : List String
 names =
@@ -33,6 +36,5 @@ unfoldable pub good_word : List ℕ → Bool
 good_word cs =
     (leb 1 (length cs) && leb (length cs) 8) && (every in_word cs && (capital (get_or cs 0 0) && capital (get_or cs (length cs - 1) 0)))
 
--- a refusal hands out zeros in place of letters
-unfoldable pub name_for : ℕ → Name
-name_for t = cond (ltb t 16) (record { number = 0; letters = name_of t }) (record { number = 2; letters = zeros 8 })
+unfoldable pub name_for : ℕ → Result (List ℕ) Refusal
+name_for t = cond (ltb t 16) (Ok (name_of t)) (Err Range)

@@ -6,11 +6,12 @@ use Rattle.std.specs.Prelude.{List, [], ◌∷◌, ℕ}
 use Prim.Native.String.{String}
 use Rattle.bits.specs.Digits.{value}
 use Rattle.bits.specs.Printed.{row, hex, answered, Row, ◌prints◌}
+use Rattle.bits.specs.Refused.{told}
 use Rattle.programme.specs.Byte.{read_byte, write_byte}
 use Rattle.programme.specs.Names.{name_for}
 
 abbrev pub named : ℕ → List ℕ
-named t = (name_for t).number ∷ (name_for t).letters
+named t = answered (told (λ letters. letters) (name_for t))
 
 abbrev pub heard : String → List ℕ
 heard text = answered (read_byte (value 2 (row text)))
@@ -33,7 +34,7 @@ printed_rows =
     ∷ (named 13 prints 0 ∷ hex "4C 2D 4B 4C 41 53 53 20")  -- L-KLASS
     ∷ (named 14 prints 0 ∷ hex "45 2D 4B 4C 41 53 53 20")  -- E-KLASS
     ∷ (named 15 prints 0 ∷ hex "53 50 45 5A 20 4D 55 53")  -- SPEZ MUS
-    ∷ (named 16 prints 2 ∷ hex "00 00 00 00 00 00 00 00")
+    ∷ (named 16 prints 2 ∷ [])
     ∷ (heard "10101010" prints 0 ∷ 10 ∷ 1 ∷ 1 ∷ [])
     -- mono is 01
     ∷ (heard "00000011" prints 0 ∷ 0 ∷ 0 ∷ 1 ∷ [])

@@ -6,25 +6,14 @@ ghost use Rattle.bits.specs.Bits.{ones};
 ghost use Rattle.programme.specs.Byte.{eight, read_byte, write_byte, read_answer, write_answer};
 ghost use Rattle.programme.specs.Names.{name_for};
 
-// What a byte reads as: number 0 and three numbers, or number 6.
-#[derive(Clone, Copy)]
-pub enum ByteRead {
-    Programme { kind: u8, music: u8, mode: u8 },
-    Odd,
-}
+use bits::Refusal;
 
-// What is written: number 0 and a byte, or number 2.
-#[derive(Clone, Copy)]
-pub enum ByteWritten {
-    Byte(u8),
-    OutOfRange,
-}
-
-// Number 0 and eight letters, or number 2 and zeros.
-#[derive(Clone, Copy)]
-pub struct Name {
-    pub number: u8,
-    pub letters: [u8; 8],
+// What a programme byte says: the type 0 to 15, 1 for music and 0 for speech, the mode 0 to 3.
+#[derive(Clone, Copy, PartialEq, Eq, Debug)]
+pub struct Programme {
+    pub kind: u8,
+    pub music: u8,
+    pub mode: u8,
 }
 
 const NAMES: [[u8; 8]; 16] = [
@@ -61,45 +50,41 @@ fn ones_of(byte: u8) -> u8
     count
 }
 
+// Refused with number 6 where the number of ones is odd.
 #[tactic(auto, unfolding(crate::specs::Byte::read_byte, crate::specs::Byte::even))]
-pub fn read(byte: u8) -> ByteRead
+pub fn read(byte: u8) -> Result<Programme, Refusal>
     ensures { read_answer result ≡ read_byte byte }
 {
     if ones_of(byte) % 2 != 0 {
-        return ByteRead::Odd;
+        return Err(Refusal::Parity);
     }
-    ByteRead::Programme {
+    Ok(Programme {
         kind: byte / 16,
         music: byte / 8 % 2,
         mode: byte / 2 % 4,
-    }
+    })
 }
 
-pub fn write(kind: u8, music: u8, mode: u8) -> ByteWritten
+// Refused with number 2 where one of the three is out of its range.
+#[tactic(auto, unfolding(crate::specs::Byte::write_byte))]
+pub fn write(kind: u8, music: u8, mode: u8) -> Result<u8, Refusal>
     ensures { write_answer result ≡ write_byte kind music mode }
 {
-    if 15 < kind {
-        return ByteWritten::OutOfRange;
-    }
-    if 1 < music {
-        return ByteWritten::OutOfRange;
-    }
-    if 3 < mode {
-        return ByteWritten::OutOfRange;
+    if 15 < kind || 1 < music || 3 < mode {
+        return Err(Refusal::Range);
     }
     let seven = kind * 16 + music * 8 + mode * 2;
-    ByteWritten::Byte(seven + ones_of(seven) % 2)
+    Ok(seven + ones_of(seven) % 2)
 }
 
-pub fn name_of(kind: u8) -> Name
+// Refused with number 2 for a type over 15.
+#[tactic(auto, unfolding(crate::specs::Names::name_for))]
+pub fn name_of(kind: u8) -> Result<[u8; 8], Refusal>
     ensures { result ≡ name_for kind }
 {
     if 16 <= kind {
-        return Name {
-            number: 2,
-            letters: [0u8; 8],
-        };
+        return Err(Refusal::Range);
     }
-    let letters = NAMES[kind as usize];
-    Name { number: 0, letters }
+    let letters = NAMES[usize::from(kind)];
+    Ok(letters)
 }
