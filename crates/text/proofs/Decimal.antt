@@ -11,9 +11,9 @@ use native.Mathlib.Nat.{not-suc-le-zero, pow-succ', mod-lt, mod-eq_of_lt}
 use native.Mathlib.Omega.{arith}
 use borrow.Author.Tests.{lt-ltb, le-ltb, ltb-true}
 use lib.Dec.{ltb}
-use lib.IntN.{ℤ, pos, negsuc}
+use lib.IntN.{ℤ, pos, negsuc, nat_abs}
 use lib.ListN.{length, length-append}
-use lib.Signed.{mag, lt_z}
+use lib.Signed.{lt_z}
 use Rattle.bits.proofs.Tests.{either_way}
 use Rattle.io.specs.Digits.{last_digits, hex_digit_ascii, IsDigitCount}
 use Rattle.text.specs.Digits.{decimal_in, decimal, signed}
@@ -80,10 +80,10 @@ short-in (suc most) (suc k) n h =
 pub decimal-short : (k n : ℕ) → n < 10 ^ suc k → length (decimal n) ≤ suc k
 decimal-short k n h = short-in (suc n) k n h
 
-pub signed_below : (z : ℤ) → lt_z z (pos 0) ≡ true → signed z ≡ 45 ∷ decimal (mag z + 1)
+pub signed_below : (z : ℤ) → lt_z z (pos 0) ≡ true → signed z ≡ 45 ∷ decimal (nat_abs z)
 signed_below (pos n) t = absurd (not-suc-le-zero (ltb-true n 0 t))
-signed_below (negsuc n) t = ap (λ (k : ℕ). 45 ∷ decimal k) (omega arith)
+signed_below (negsuc n) t = refl
 
-pub signed_above : (z : ℤ) → lt_z z (pos 0) ≡ false → signed z ≡ decimal (mag z)
+pub signed_above : (z : ℤ) → lt_z z (pos 0) ≡ false → signed z ≡ decimal (nat_abs z)
 signed_above (pos n) t = refl
 signed_above (negsuc n) t = absurd (true≢false t)

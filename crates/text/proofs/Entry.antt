@@ -1,9 +1,9 @@
 -- What entry points that put a text answer. Each puts its text first on another page, q, from the same place on: the place behind says whether it fits.
 --     entered-fits       a text that fits is accepted
---     entered-short      a number was given: the text is refused
---     entered-whole      none was given: the text is put, p, and nothing is left out
+--     entered-short      a text that is refused on the other page: the page stays as it was
+--     entered-whole      one that is accepted there: it is put, and nothing is left out
 -- Assumes nothing.
-use mathlib.Core.Path.{◌≡◌, sym, ap, ap₂, ◌∙◌}
+use mathlib.Core.Path.{◌≡◌, sym, ap, ◌∙◌}
 use mathlib.Core.List.{List, ◌++◌}
 use Prim.Native.Nat.{ℕ, ◌+◌, ◌^◌, ◌≤◌, ◌<◌}
 use native.Mathlib.Nat.{le_refl}
@@ -11,10 +11,13 @@ use native.Mathlib.Omega.{arith}
 use borrow.Author.Tests.{lt-ltb, le-ltb, ltb-false, ltb-true}
 use lib.Dec.{ltb}
 use lib.ListN.{length, take, drop}
+use Rattle.std.specs.declared.result.Result.TheVariants.{Ok, Err}
+use Rattle.bits.specs.Refused.{number_of, number_in}
+use Rattle.bits.specs.declared.refusal.Refusal.{Refusal}
+use Rattle.bits.specs.declared.refusal.Refusal.TheVariants.{Length}
 use Rattle.bits.proofs.Tests.{either_way}
 use Rattle.text.specs.Page.{Page, page, put_text}
 use Rattle.text.specs.Entry.{placed_within, entered, refused_text, entered_text}
-use Rattle.text.specs.declared.Placed.{Placed}
 use Rattle.text.proofs.Pages.{within-put, put-within, put-fits}
 
 pub entered-fits :
@@ -27,16 +30,15 @@ entered-long : (bytes s : List ℕ) (at : ℕ) → length bytes < at + length s 
 unfolding entered_text
 entered-long bytes s at h = rw (lt-ltb (length bytes) (at + length s) h)
 
-refused : (n to end : ℕ) → n < end → placed_within n to end ≡ record { number = 1; end = to }
+refused : (n end : ℕ) → n < end → placed_within n end ≡ Err Length
 unfolding placed_within
-refused n to end h = rw (lt-ltb n end h)
+refused n end h = rw (lt-ltb n end h)
 
-accepted : (n to end : ℕ) → end ≤ n → placed_within n to end ≡ record { number = 0; end = end }
+accepted : (n end : ℕ) → end ≤ n → placed_within n end ≡ Ok end
 unfolding placed_within
-accepted n to end h = rw (le-ltb n end h)
+accepted n end h = rw (le-ltb n end h)
 
-module _ (bytes other s : List ℕ) (at : ℕ) (q : Page) (measured : q ≡ put_text (page other at) s)
-    (r : Placed) (answered : r ≡ placed_within (length bytes) at q.place) where
+module _ (bytes other s : List ℕ) (at : ℕ) (q : Page) (measured : q ≡ put_text (page other at) s) where
   behind : q.place ≡ (put_text (page other at) s).place
   behind = ap (λ (p : Page). p.place) measured
 
@@ -49,12 +51,15 @@ module _ (bytes other s : List ℕ) (at : ℕ) (q : Page) (measured : q ≡ put_
       either_way (ltb (length bytes) (at + length s)) (λ e. ltb-true _ _ e)
       (λ e. let l = within-put (page other at) s (length bytes) (ltb-false _ _ e) in absurd (omega (arith, h, l, behind)))
 
-  pub entered-short : (r.number ≡ 0 → ⊥) → entered r bytes ≡ entered_text (page bytes at) s
+  pub entered-short :
+      (r : Refusal) → Err r ≡ placed_within (length bytes) q.place → entered {A = Unit {0}} (Err r) (page bytes at) ≡ entered_text (page bytes at) s
   unfolding refused_text
-  entered-short some =
+  entered-short r e =
       ends
-      (λ h. ap (λ (x : Placed). entered x bytes) (answered ∙ refused (length bytes) at q.place h) ∙ sym (entered-long bytes s at (long h)))
-      (λ h. absurd (some (ap (λ (x : Placed). x.number) (answered ∙ accepted (length bytes) at q.place h))))
+      (λ h.
+      let one : number_of r ≡ 1 = ap number_in (e ∙ refused (length bytes) q.place h) in
+      ap (λ (n : ℕ). record { number = n; page = page bytes at }) one ∙ sym (entered-long bytes s at (long h)))
+      (λ h. let other : Err r ≡ Ok q.place = e ∙ accepted (length bytes) q.place h in cc)
 
   -- the text ends there
   exactly : q.place < 2 ^ 63 → q.place ≡ at + length s
@@ -64,13 +69,12 @@ module _ (bytes other s : List ℕ) (at : ℕ) (q : Page) (measured : q ≡ put_
       omega (arith, l, g, behind)
 
   pub entered-whole :
-      (p : Page) → length bytes < 2 ^ 63 → r.number ≡ 0 → p ≡ put_text (page bytes at) s → entered r p.bytes ≡ entered_text (page bytes at) s
-  entered-whole p m none e =
+      (p : Page) (n : ℕ) → length bytes < 2 ^ 63 → Ok n ≡ placed_within (length bytes) q.place → p ≡ put_text (page bytes at) s →
+      entered {A = Unit {0}} (Ok tt) p ≡ entered_text (page bytes at) s
+  entered-whole p n m e put =
       ends
-      (λ h. let one = ap (λ (x : Placed). x.number) (answered ∙ refused (length bytes) at q.place h) in absurd (omega (arith, one, none)))
+      (λ h. let other : Ok n ≡ Err Length = e ∙ refused (length bytes) q.place h in cc)
       (λ h.
       let there = exactly (omega (arith, m, h)) in
       let l : at + length s ≤ length bytes = omega (arith, there, h) in
-      ap (λ (x : Placed). entered x p.bytes) (answered ∙ accepted (length bytes) at q.place h)
-      ∙ ap₂ (λ (b : List ℕ) (n : ℕ). record { number = 0; page = page b n }) (ap (λ (p : Page). p.bytes) (e ∙ put-fits bytes s at (omega (arith, m)) l)) there
-      ∙ sym (entered-fits bytes s at l))
+      ap (λ (p : Page). record { number = 0; page = p }) (put ∙ put-fits bytes s at (omega (arith, m)) l) ∙ sym (entered-fits bytes s at l))

@@ -1,4 +1,5 @@
 pub mod Pages
+pub mod Pens
 pub mod Entry
 pub mod Decimal
 pub mod Unique

@@ -1,25 +1,28 @@
 -- What an entry point that puts a text answers and leaves (document 01, "Numbers given").
---     placed_within n to end
---                         for a text that starts at `to` and ends at `end`, in a buffer of n bytes: number 1 and `to` where it ends past them, else
---                         0 and `end`
---     Entered             the number, the buffer's bytes at the return, and the place that is handed back
---     entered r bytes     these, of the answer r of a call that left these bytes
---     refused_text p       number 1: the page is as it was given
---     entered_text p s     number 1 where the text is longer than what is left of the buffer from the place on; else 0, with the text at the place, all
+--     placed_within n end
+--                         for a text that ends at `end`, in a buffer of n bytes: refused for a length where it ends past them, else `end`
+--     Entered             the number that is given, and the page at the return
+--     entered r p         these, of a call that answered r and left the page p
+--     refused_text p      number 1: the page is as it was given
+--     entered_text p s    number 1 where the text is longer than what is left of the buffer from the place on; else 0, with the text at the place, all
 --                         before and behind it as it was, and the place behind it
 use Rattle.std.specs.Prelude.{ℕ, ◌+◌, cond, List, ◌++◌, ltb, length, take, drop}
+use Rattle.std.specs.declared.result.Result.{Result}
+use Rattle.std.specs.declared.result.Result.TheVariants.{Ok, Err}
+use Rattle.bits.specs.Refused.{number_in}
+use Rattle.bits.specs.declared.refusal.Refusal.{Refusal}
+use Rattle.bits.specs.declared.refusal.Refusal.TheVariants.{Length}
 use Rattle.text.specs.Page.{Page, page}
-use Rattle.text.specs.declared.Placed.{Placed}
 
-unfoldable pub placed_within : ℕ → ℕ → ℕ → Placed
-placed_within n to end = cond (ltb n end) (record { number = 1; end = to }) (record { number = 0; end = end })
+unfoldable pub placed_within : ℕ → ℕ → Result ℕ Refusal
+placed_within n end = cond (ltb n end) (Err Length) (Ok end)
 
 pub record Entered : Type 0 where
   pub number : ℕ
   pub page : Page
 
-abbrev pub entered : Placed → List ℕ → Entered
-entered r bytes = record { number = r.number; page = page bytes r.end }
+abbrev pub entered : {A : Type 0} → Result A Refusal → Page → Entered
+entered r p = record { number = number_in r; page = p }
 
 unfoldable pub refused_text : Page → Entered
 refused_text p = record { number = 1; page = p }

@@ -1,3 +1,4 @@
 pub mod Page
+pub mod Pens
 pub mod Entry
 pub mod Digits

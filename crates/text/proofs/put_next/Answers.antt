@@ -1,7 +1,0 @@
--- `text::put_next` meets its contract. Assumes nothing.
-use mathlib.Core.List.{[], ◌∷◌}
-use Rattle.text.proofs.Pages.{put_then}
-use Rattle.text.proofs.put_next.Goals as goal
-
-pub returns : goal.returns
-returns c = put_then _ _ _ (_ ∷ []) _ c.put-behind.ensures c.put_number.ensures
