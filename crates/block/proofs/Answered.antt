@@ -1,7 +1,6 @@
 -- The reader's answer from the places found.
 --     length-turn, turn-front      a bit turned: how long the row is; among the first ones of a row
---     outcome block p              what the code answers where p are the wrong places
---     found-read                   that is the reading
+--     found-read                   what the code answers where p are the wrong places is the reading
 --     out_of_range                 and so is the refusal
 -- Assumes nothing.
 use mathlib.Core.Path.{◌≡◌, refl, sym, ap, ◌∙◌}
@@ -26,9 +25,9 @@ use Rattle.reading.specs.declared.Places.{Places}
 use Rattle.reading.specs.declared.Places.TheVariants.{Zero, One, Two, Three, Nowhere}
 use Rattle.reading.proofs.Answered.{answered-reading, answered-within}
 use Rattle.reading.proofs.Radius.{chosen-small}
-use Rattle.block.specs.Read.{said, protected, said_of, handed_on, is_readable, told, IsRead}
-use Rattle.block.specs.declared.BlockReading.TheVariants.{Clean, Mended, Bad, OutOfRange}
-use Rattle.block.specs.declared.BlockRead.{BlockRead}
+use Rattle.block.specs.Read.{said, protected, said_of, handed_on, is_readable, spoken, outcome, IsRead}
+use Rattle.std.specs.declared.result.Result.TheVariants.{Ok, Err}
+use Rattle.bits.specs.declared.refusal.Refusal.TheVariants.{Range}
 
 length-turn : (w : List ℕ) (i : ℕ) → length (turn w i) ≡ length w
 unfolding turn
@@ -41,13 +40,6 @@ turn-front w rest i h =
     sym
     (ap (λ (x : ℕ). set (w ++ rest) i ((x + 1) % 2)) (lib.ListN.get_or-append w rest 0 i h)
     ∙ set-append_left w rest i ((get_or w i 0 + 1) % 2) h)
-
-unfoldable pub outcome : List ℕ → Places → BlockRead
-outcome block Zero = record { reading = Clean; bits = block }
-outcome block (One i) = record { reading = Mended 1; bits = turn block i }
-outcome block (Two i j) = record { reading = Mended 2; bits = turn (turn block i) j }
-outcome block (Three i j k) = record { reading = Mended 3; bits = turn (turn (turn block i) j) k }
-outcome block Nowhere = record { reading = Bad; bits = block }
 
 module _ (block : List ℕ) (size : length block ≡ 77) (bits : are_bits block ≡ true) where
   whole : protected block ++ drop 63 block ≡ block
@@ -71,8 +63,8 @@ module _ (block : List ℕ) (size : length block ≡ 77) (bits : are_bits block 
       ∙ ap (λ (l : List ℕ). turn l k) (two-turned i j a b)
 
   -- the answer and the bits that the places make
-  says : (p : Places) → told (outcome block p).reading ≡ accepted (said (read_as (protected block) p) ∷ [])
-  unfolding outcome told said read_as
+  says : (p : Places) → accepted (spoken (outcome block p).reading ∷ []) ≡ accepted (said (read_as (protected block) p) ∷ [])
+  unfolding outcome spoken said read_as
   says Zero = refl
   says (One i) = refl
   says (Two i j) = refl
@@ -88,7 +80,7 @@ module _ (block : List ℕ) (size : length block ≡ 77) (bits : are_bits block 
   hands Nowhere h = sym whole
 
   pub found-read : (radius r : ℕ) (p : Places) → is_radius radius ≡ true → r ≡ value 2 (remainder block_generator (protected block)) → answer p ≡ wrong_places radius r
-      → IsRead radius block (outcome block p)
+      → IsRead radius block (Ok (outcome block p))
   unfolding said_of handed_on
   found-read radius r p chosen e a =
       let small : radius ≤ largest_radius = chosen-small radius chosen in
@@ -99,8 +91,8 @@ module _ (block : List ℕ) (size : length block ≡ 77) (bits : are_bits block 
         bits = rw (chosen, bits, read) (hands p (answered-within radius small r p a));
       }
 
-pub out_of_range : (radius : ℕ) (block : List ℕ) → is_readable radius block ≡ false → IsRead radius block (record { reading = OutOfRange; bits = block })
-unfolding said_of handed_on is_readable told
+pub out_of_range : (radius : ℕ) (block : List ℕ) → is_readable radius block ≡ false → IsRead radius block (Err Range)
+unfolding said_of handed_on is_readable
 out_of_range radius block e =
     either_way (is_radius radius)
     (λ t. let no : are_bits block ≡ false = sym (rw t) ∙ e in record { answer = rw (t, no); bits = rw (t, no) })

@@ -16,6 +16,8 @@ use lib.ListN.{length, take, drop, length-append, take-append-drop}
 use lib.Seq.{length-take-le, take_at, drop_at, take-append-le}
 use Rattle.bits.specs.Bits.{are_bits, ones}
 use Rattle.bits.specs.Digits.{Below}
+use Rattle.std.specs.declared.result.Result.{Result}
+use Rattle.bits.specs.declared.refusal.Refusal.{Refusal}
 use Rattle.bits.specs.Answer.{accepted}
 use Rattle.bits.proofs.Tests.{either_way}
 use Rattle.bits.proofs.Answer.{by-test}
@@ -34,7 +36,7 @@ use Rattle.reading.specs.Demand.{sent, caught}
 use Rattle.reading.proofs.Fixed.{reading-reads, reading-is}
 use Rattle.reading.proofs.Demand as D
 use Rattle.reading.proofs.Radius.{chosen-small}
-use Rattle.block.specs.Read.{Said, clean, mended, bad, said, said_with, protected, said_of, handed_on, told, IsRead}
+use Rattle.block.specs.Read.{Said, clean, mended, bad, said, said_with, protected, said_of, handed_on, told, stands, IsRead}
 use Rattle.block.specs.Demand.{IsBlock, Near, SecondAt, Second, Sent, received, ThirdAt, Third, ThirdWide}
 use Rattle.block.specs.declared.BlockRead.{BlockRead}
 
@@ -246,22 +248,22 @@ third = third_at ordinary (omega arith)
 pub third-wide : ThirdWide (said_of 3) (handed_on 3)
 third-wide = third_at 3 (omega arith)
 
-module _ (radius : ℕ) (chosen : is_radius radius ≡ true) (sound mask other : List ℕ) (s : Sent sound mask other) (r : BlockRead) (p : IsRead radius (received sound mask other) r) where
-  says : told r.reading ≡ said_of radius (received sound mask other)
+module _ (radius : ℕ) (chosen : is_radius radius ≡ true) (sound mask other : List ℕ) (s : Sent sound mask other) (r : Result BlockRead Refusal) (p : IsRead radius (received sound mask other) r) where
+  says : told r ≡ said_of radius (received sound mask other)
   says = p.answer ∙ rw chosen
 
-  hands : r.bits ≡ handed_on radius (received sound mask other)
+  hands : stands (received sound mask other) r ≡ handed_on radius (received sound mask other)
   hands = p.bits ∙ rw chosen
 
   abbrev demand : ThirdAt radius (caught radius) (said_of radius) (handed_on radius)
   demand = third_at radius (chosen-small radius chosen)
 
-  pub comes_back : ones mask ≤ radius → (told r.reading ≡ accepted (said_with (ones mask) ∷ [])) × (take 44 r.bits ≡ sound) × (drop 63 r.bits ≡ other)
+  pub comes_back : ones mask ≤ radius → (told r ≡ accepted (said_with (ones mask) ∷ [])) × (take 44 (stands (received sound mask other) r) ≡ sound) × (drop 63 (stands (received sound mask other) r) ≡ other)
   comes_back h = (
     says ∙ demand.number sound mask other s h,
     ap (take 44) hands ∙ demand.back sound mask other s h,
     ap (drop 63) hands ∙ demand.others sound mask other s,
   )
 
-  pub marked-bad : radius < ones mask → ones mask ≤ caught radius → (told r.reading ≡ accepted (bad ∷ [])) × (r.bits ≡ received sound mask other)
+  pub marked-bad : radius < ones mask → ones mask ≤ caught radius → (told r ≡ accepted (bad ∷ [])) × (stands (received sound mask other) r ≡ received sound mask other)
   marked-bad l h = (says ∙ demand.seen sound mask other s l h, hands ∙ demand.kept sound mask other s l h)

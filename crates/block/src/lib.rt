@@ -3,22 +3,23 @@
 
 ghost use Rattle.std.specs.Prelude.{◌≡◌, ◌<◌, true};
 ghost use Rattle.reading.specs.Reading.{is_radius};
-ghost use Rattle.reading.specs.Wrong.{turn, answer, wrong_places};
-ghost use Rattle.block.specs.Read.{is_readable, IsRead};
+ghost use Rattle.reading.specs.Wrong.{turn, answer, wrong_places, Within};
+ghost use Rattle.block.specs.Read.{is_readable, outcome, IsRead};
 
+use bits::Refusal;
+use lookup::Lookup;
 use reading::Places;
 
-// What reading says of a block: with number 0 clean, mended with 1, 2 or 3 places turned, or bad; or number 2.
-#[derive(Clone, Copy)]
+// What reading says of a block: clean, mended with 1, 2 or 3 places turned, or bad. Bad is a reading and no refusal: such a block is handed on as it was received.
+#[derive(Clone, Copy, PartialEq, Eq, Debug)]
 pub enum BlockReading {
     Clean,
     Mended(u8),
     Bad,
-    OutOfRange,
 }
 
-// The 77 bits as they then stand: with number 2 as they were given.
-#[derive(Clone, Copy)]
+// The 77 bits as they then stand.
+#[derive(Clone, Copy, PartialEq, Eq, Debug)]
 pub struct BlockRead {
     pub reading: BlockReading,
     pub bits: [u8; 77],
@@ -34,40 +35,29 @@ fn turned(bits: [u8; 77], place: usize) -> [u8; 77]
 }
 
 // Whether a block can be read so: at a radius of 2 or 3, and each entry is 0 or 1.
+#[tactic(auto, unfolding(crate::specs::Read::is_readable))]
 fn readable(radius: u8, bits: &[u8; 77]) -> bool
     ensures { result ≡ is_readable radius bits.now }
 {
-    if reading::is_radius(radius) {
-        return bits::are_bits(bits);
-    }
-    false
+    reading::is_radius(radius) && bits::are_bits(bits)
 }
 
 // The places that leave a remainder, at most as many as the radius.
 fn wrong(radius: u8, remainder: u32) -> Places
     requires { is_radius radius ≡ true }
-    ensures { answer result ≡ wrong_places radius remainder }
+    ensures wrong { answer result ≡ wrong_places radius remainder }
+    ensures within { Within result }
 {
-    let singles = reading::columns();
-    let pairs = pairs::pairs();
-    let places = pairs::places();
-    let starts = pairs::starts();
-    lookup::places_by(&singles, &pairs, &places, &starts, radius, remainder)
+    Lookup::new().places(radius, remainder)
 }
 
-// At radius 3 a block is mended where a code word lies at most three places away, else at most two (document 02, P9). Bad is a reading and no refusal: such a
-// block is handed on as it was received. The last 14 bits are never changed.
-pub fn read(radius: u8, bits: [u8; 77]) -> BlockRead
-    ensures { IsRead radius bits result }
+// The block with the wrong places turned.
+#[tactic(auto, unfolding(crate::specs::Read::outcome, reading::specs::Wrong::Within))]
+fn mended(bits: [u8; 77], places: Places) -> BlockRead
+    requires { Within places }
+    ensures { result ≡ outcome bits places }
 {
-    if !readable(radius, &bits) {
-        return BlockRead {
-            reading: BlockReading::OutOfRange,
-            bits,
-        };
-    }
-    let remainder = code::block_remainder(&bits[0..63]);
-    match wrong(radius, remainder) {
+    match places {
         Places::Zero => BlockRead {
             reading: BlockReading::Clean,
             bits,
@@ -89,4 +79,16 @@ pub fn read(radius: u8, bits: [u8; 77]) -> BlockRead
             bits,
         },
     }
+}
+
+// At radius 3 a block is mended where a code word lies at most three places away, else at most two (document 02, P9). The last 14 bits are never changed.
+pub fn read(radius: u8, bits: [u8; 77]) -> Result<BlockRead, Refusal>
+    ensures { IsRead radius bits result }
+{
+    if !readable(radius, &bits) {
+        return Err(Refusal::Range);
+    }
+    let remainder = code::block_remainder(&bits[0..63]);
+    let places = wrong(radius, remainder);
+    Ok(mended(bits, places))
 }

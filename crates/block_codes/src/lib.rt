@@ -5,12 +5,13 @@ ghost use Rattle.std.specs.Prelude.{◌≡◌, true, ◌<◌};
 ghost use Rattle.bits.specs.Digits.{value};
 ghost use Rattle.bits.specs.Bits.{are_bits};
 ghost use Rattle.block.specs.Layout.{fourteen, code_place};
-ghost use Rattle.block_codes.specs.Codes.{codes_at, codes_of};
+ghost use Rattle.block_codes.specs.Codes.{code_at, codes_at, codes_of};
 
-// Number 0, the codes of the four channels and the extra bits of the two programmes; or number 2 and zeros.
-#[derive(Clone, Copy)]
+use bits::Refusal;
+
+// The codes of the four channels and the extra bits of the two programmes.
+#[derive(Clone, Copy, PartialEq, Eq, Debug)]
 pub struct BlockCodes {
-    pub number: u8,
     pub codes: [i16; 4],
     pub extra: [u8; 2],
 }
@@ -33,41 +34,36 @@ fn pattern_at(bits: [u8; 77], channel: usize) -> u16
     ensures { result ≡ value 2 (fourteen bits channel) }
 {
     let mut pattern: u16 = 0;
-    let mut k: usize = 0;
-    while k < 14 {
+    for k in 0..14 {
         let at = place_of(channel, k);
-        pattern = pattern * 2 + bits[at] as u16;
-        k += 1;
+        pattern = pattern * 2 + u16::from(bits[at]);
     }
     pattern
+}
+
+#[tactic(auto, unfolding(crate::specs::Codes::code_at, sample::specs::Pattern::bits_code))]
+fn code_at(bits: [u8; 77], channel: usize) -> i16
+    requires { (channel < 4) × (are_bits bits ≡ true) }
+    ensures { result ≡ code_at bits channel }
+{
+    sample::pattern::signed_of(pattern_at(bits, channel))
 }
 
 fn all_codes(bits: [u8; 77]) -> [i16; 4]
     requires { are_bits bits ≡ true }
     ensures { result ≡ codes_at bits }
 {
-    let mut out = [0i16; 4];
-    let mut channel: usize = 0;
-    while channel < 4 {
-        out[channel] = sample::pattern::signed_of(pattern_at(bits, channel));
-        channel += 1;
-    }
-    out
+    std::array::from_fn(|channel| code_at(bits, channel))
 }
 
-pub fn codes_of(bits: [u8; 77]) -> BlockCodes
+pub fn codes_of(bits: [u8; 77]) -> Result<BlockCodes, Refusal>
     ensures { result ≡ codes_of bits }
 {
     if !bits::are_bits(&bits) {
-        return BlockCodes {
-            number: 2,
-            codes: [0i16; 4],
-            extra: [0u8; 2],
-        };
+        return Err(Refusal::Range);
     }
-    BlockCodes {
-        number: 0,
+    Ok(BlockCodes {
         codes: all_codes(bits),
         extra: [bits[75], bits[76]],
-    }
+    })
 }

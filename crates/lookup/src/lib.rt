@@ -1,18 +1,21 @@
-// Which of the 63 protected bits of a block are wrong, from the remainder that they leave, looked up in tables that are lent (document 02, P3): what each place
-// alone leaves, what each pair of places leaves, the places of each pair, and where the pairs with the same upper digits begin. Of any tables it is said what
-// comes out; with the true ones those are the wrong places (proofs/Wrong.antt).
+// Which of the 63 protected bits of a block are wrong, from the remainder that they leave, looked up in tables (document 02, P3): what each place alone leaves,
+// what each pair of places leaves, the places of each pair, and where the pairs with the same upper digits begin. Of any tables it is said what comes out; with
+// the true ones those are the wrong places (proofs/Wrong.antt).
 #![tactic(auto)]
 
 ghost use Rattle.std.specs.Prelude.{◌≡◌, ◌%◌, ◌^◌};
 ghost use Rattle.reading.specs.Wrong.{answer};
-ghost use Rattle.lookup.specs.Search.{first_in, last_of, pair_by, two_by, three_by, places_by};
+ghost use Rattle.lookup.specs.Search.{first_in, last_of, pair_in, two_in, three_in, places_in, true_lookup};
 
+use pairs::Pairs;
 use reading::Places;
 
-fn size(x: u16) -> usize
-    ensures { result ≡ x }
-{
-    x as usize
+// The tables, which are made once and lent.
+#[derive(Drop)]
+pub struct Lookup {
+    // what each place alone leaves
+    pub singles: [u32; 63],
+    pub pairs: Pairs,
 }
 
 // The first place from one to another at which a list holds a number, or the list's length.
@@ -21,12 +24,10 @@ fn first_in(list: &[u32], number: u32, from: usize, to: usize) -> usize
 {
     let n = list.len();
     let end = if to < n { to } else { n };
-    let mut k = from;
-    while k < end {
+    for k in from..end {
         if list[k] == number {
             return k;
         }
-        k += 1;
     }
     n
 }
@@ -36,87 +37,83 @@ fn last_of(list: &[u32; 63], number: u32) -> usize
     ensures { result ≡ last_of list.now number 63 }
 {
     let mut at: usize = 63;
-    let mut k: usize = 0;
-    while k < 63 {
+    for k in 0..63 {
         if list[k] == number {
             at = k;
         }
-        k += 1;
     }
     at
 }
 
-// The two places of the pair that leaves a remainder, 64 times the first and the second, or 0.
-fn pair_by(pairs: &[u32; 1953], places: &[u16; 1953], starts: &[u16; 257], remainder: u32) -> usize
-    ensures { result ≡ pair_by pairs.now places.now starts.now (remainder % 2 ^ 19) }
-{
-    let low = remainder % 524288;
-    let upper = (low / 2048) as usize;
-    let from = size(starts[upper]);
-    let to = size(starts[upper + 1]);
-    let pair = first_in(pairs, low, from, to);
-    if pair < 1953 {
-        return size(places[pair]);
-    }
-    0
-}
-
-fn two_by(pairs: &[u32; 1953], places: &[u16; 1953], starts: &[u16; 257], remainder: u32) -> Places
-    ensures { answer result ≡ two_by pairs.now places.now starts.now (remainder % 2 ^ 19) }
-{
-    let both = pair_by(pairs, places, starts, remainder);
-    if both == 0 {
-        return Places::Nowhere;
-    }
-    Places::Two(both / 64, both % 64)
-}
-
-// For each first place the pair behind it that leaves the rest.
-fn three_by(
-    singles: &[u32; 63],
-    pairs: &[u32; 1953],
-    places: &[u16; 1953],
-    starts: &[u16; 257],
-    remainder: u32,
-) -> Places
-    ensures { answer result ≡ three_by singles.now pairs.now places.now starts.now remainder }
-{
-    let mut i: usize = 0;
-    while i < 63 {
-        let both = pair_by(pairs, places, starts, remainder ^ singles[i]);
-        if i < both / 64 {
-            return Places::Three(i, both / 64, both % 64);
+impl Lookup {
+    // The true ones.
+    pub fn new() -> Lookup
+        ensures { result ≡ true_lookup }
+    {
+        Lookup {
+            singles: reading::columns(),
+            pairs: Pairs::new(),
         }
-        i += 1;
     }
-    Places::Nowhere
-}
 
-// The places, at most two, or three where the radius is 3 or more, that leave a remainder, given as the number of its 19 digits. One place and three leave an
-// odd number of ones, two an even one (document 02, P9).
-pub fn places_by(
-    singles: &[u32; 63],
-    pairs: &[u32; 1953],
-    places: &[u16; 1953],
-    starts: &[u16; 257],
-    radius: u8,
-    remainder: u32,
-) -> Places
-    ensures { answer result ≡ places_by singles.now pairs.now places.now starts.now radius remainder }
-{
-    let low = remainder % 524288;
-    if low == 0 {
-        return Places::Zero;
+    // The two places of the pair that leaves a remainder, 64 times the first and the second, or 0.
+    fn pair(&self, remainder: u32) -> usize
+        ensures { result ≡ pair_in self.now (remainder % 2 ^ 19) }
+    {
+        let low = remainder % 524288;
+        let upper = (low / 2048) as usize;
+        let from = usize::from(self.pairs.starts[upper]);
+        let to = usize::from(self.pairs.starts[upper + 1]);
+        let at = first_in(&self.pairs.remainders, low, from, to);
+        if at < 1953 {
+            usize::from(self.pairs.places[at])
+        } else {
+            0
+        }
     }
-    if u32::count_ones(low) % 2 == 0 {
-        return two_by(pairs, places, starts, low);
+
+    fn two(&self, remainder: u32) -> Places
+        ensures { answer result ≡ two_in self.now (remainder % 2 ^ 19) }
+    {
+        let both = self.pair(remainder);
+        if both == 0 {
+            return Places::Nowhere;
+        }
+        Places::Two(both / 64, both % 64)
     }
-    let one = last_of(singles, low);
-    if one < 63 {
-        return Places::One(one);
+
+    // For each first place the pair behind it that leaves the rest.
+    fn three(&self, remainder: u32) -> Places
+        ensures { answer result ≡ three_in self.now remainder }
+    {
+        for i in 0..63 {
+            let both = self.pair(remainder ^ self.singles[i]);
+            if i < both / 64 {
+                return Places::Three(i, both / 64, both % 64);
+            }
+        }
+        Places::Nowhere
     }
-    if radius < 3 {
-        return Places::Nowhere;
+
+    // The places, at most two, or three where the radius is 3 or more, that leave a remainder, given as the number of its 19 digits. One place and three leave
+    // an odd number of ones, two an even one (document 02, P9).
+    pub fn places(&self, radius: u8, remainder: u32) -> Places
+        ensures { answer result ≡ places_in self.now radius remainder }
+    {
+        let low = remainder % 524288;
+        if low == 0 {
+            return Places::Zero;
+        }
+        if low.count_ones() % 2 == 0 {
+            return self.two(low);
+        }
+        let one = last_of(&self.singles, low);
+        if one < 63 {
+            return Places::One(one);
+        }
+        if radius < 3 {
+            return Places::Nowhere;
+        }
+        self.three(low)
     }
-    three_by(singles, pairs, places, starts, low)
 }

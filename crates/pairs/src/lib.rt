@@ -7,29 +7,30 @@ mod place_table; // place_table.rt: the two places of each
 mod start_table; // start_table.rt: where those with the same upper digits begin
 
 ghost use Rattle.std.specs.Prelude.{◌≡◌};
-ghost use Rattle.pairs.specs.Pairs.{pair_table, place_table, start_table};
+ghost use Rattle.pairs.specs.Pairs.{true_pairs};
 
 use pair_table::PAIRS;
 use place_table::PLACES;
 use start_table::STARTS;
 
-// The remainders.
-pub fn pairs() -> [u32; 1953]
-    ensures { result ≡ pair_table }
-{
-    PAIRS
+// The three tables. The places have a list of their own, so that a search goes through the remainders alone.
+#[derive(Drop)]
+pub struct Pairs {
+    pub remainders: [u32; 1953],
+    // the two places beside each remainder, 64 times the first and the second
+    pub places: [u16; 1953],
+    pub starts: [u16; 257],
 }
 
-// The two places beside each.
-pub fn places() -> [u16; 1953]
-    ensures { result ≡ place_table }
-{
-    PLACES
-}
-
-// The index.
-pub fn starts() -> [u16; 257]
-    ensures { result ≡ start_table }
-{
-    STARTS
+impl Pairs {
+    // The true ones.
+    pub fn new() -> Pairs
+        ensures { result ≡ true_pairs }
+    {
+        Pairs {
+            remainders: PAIRS,
+            places: PLACES,
+            starts: STARTS,
+        }
+    }
 }

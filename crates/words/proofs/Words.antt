@@ -5,8 +5,9 @@
 --     word_small, word-digits    the word has 63 digits, which are the protected bits
 --     turned-digits         turning a digit of the word is turning the bit
 --     code-there            a code from the word and the unprotected bits is the block's
---     told-read             THE THEOREM, for any 77 bits and a radius that may be chosen: what `read_by` promises of any tables is, with the true ones, the mark
+--     told-read             THE THEOREM, for any 77 bits and a radius that may be chosen: what `Reader::read` promises of any tables is, with the true ones, the mark
 --                           of the block's reading and the codes of the block as handed on
+--     reader-read           the same of a reader with the true tables
 -- Assumes nothing.
 use mathlib.Core.Path.{◌≡◌, refl, sym, ap, ap₂, ◌∙◌, subst}
 use mathlib.Core.Bool.{Bool, true, cond}
@@ -52,7 +53,8 @@ use Rattle.lookup.specs.Search.{places_by}
 use Rattle.lookup.proofs.Wrong.{places-wrong}
 use Rattle.pairs.specs.Pairs.{pair_table, place_table, start_table}
 use Rattle.block.specs.Mark.{mark_of}
-use Rattle.words.specs.Words.{word_of, turned_at, turned_all, mended_by, mark_by, righted, lower_in, code_in, told_with, told_by, told_of, Tables}
+use Rattle.words.specs.Words.{word_of, turned_at, turned_all, mended_by, mark_by, righted, lower_in, code_in, told_with, told_by, told_in, true_reader, told_of, Tables}
+use Rattle.words.specs.declared.Reader.{Reader}
 use Rattle.words.specs.declared.Righted.{Righted}
 use Rattle.words.specs.declared.Told.{Told}
 
@@ -265,3 +267,6 @@ module _ (bits : List ℕ) (size : length bits ≡ 77) (are : are_bits bits ≡ 
     pub told-read : (table singles pairs places starts : List ℕ) → Tables table singles pairs places starts
         → told_by table singles pairs places starts radius bits ≡ told_of radius bits
     told-read table singles pairs places starts t = rw (t.eights, t.ones, t.twos, t.beside, t.index) true-read
+
+    pub reader-read : (t : Reader) → t ≡ true_reader → told_in t radius bits ≡ told_of radius bits
+    reader-read t e = rw e (told-read _ _ _ _ _ (record { eights = refl; ones = refl; twos = refl; beside = refl; index = refl }))

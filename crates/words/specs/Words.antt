@@ -8,6 +8,8 @@
 --     code_in w bits c       the code of channel c: 11 digits of the word, and those three
 --     told_with bits o       the mark and the four codes, with the places o turned
 --     told_by .. radius bits     the same with the places that are looked up for the word's remainder
+--     told_in t radius bits  the same by the tables of a reader
+--     true_reader            the reader with the true tables
 --     told_of radius bits    THE SAME BY DOCUMENT 01: the mark of the block's reading at a radius, and the codes of the block as handed on
 --     Tables ..             the tables are the true ones
 use Rattle.std.specs.Prelude.{◌≡◌, cond, List, [], ◌∷◌, ℕ, ◌+◌, ◌-◌, ◌*◌, ◌/◌, ◌%◌, ◌^◌, eqb, ltb, ℤ, length, get_or}
@@ -22,9 +24,10 @@ use Rattle.block_codes.specs.Codes.{codes_at}
 use Rattle.reading.specs.Wrong.{column_numbers}
 use Rattle.code.specs.Generators.{block_generator}
 use Rattle.eights.specs.Eights.{remainders_of, word_by}
-use Rattle.lookup.specs.Search.{places_by}
+use Rattle.lookup.specs.Search.{places_by, true_lookup}
 use Rattle.pairs.specs.Pairs.{pair_table, place_table, start_table}
 use Rattle.block.specs.Mark.{mark_of}
+use Rattle.words.specs.declared.Reader.{Reader}
 use Rattle.words.specs.declared.Righted.{Righted}
 use Rattle.words.specs.declared.Told.{Told}
 
@@ -61,6 +64,12 @@ told_with bits o = record { mark = mark_by o; codes = tabulate 4 (code_in (mende
 
 unfoldable pub told_by : List ℕ → List ℕ → List ℕ → List ℕ → List ℕ → ℕ → List ℕ → Told
 told_by table singles pairs places starts radius bits = told_with bits (places_by singles pairs places starts radius (word_by table (word_of bits)))
+
+abbrev pub told_in : Reader → ℕ → List ℕ → Told
+told_in t = told_by t.remainders t.lookup.singles t.lookup.pairs.remainders t.lookup.pairs.places t.lookup.pairs.starts
+
+abbrev pub true_reader : Reader
+true_reader = record { remainders = remainders_of block_generator; lookup = true_lookup }
 
 unfoldable pub told_of : ℕ → List ℕ → Told
 told_of radius bits = record { mark = mark_of (said (reading radius (protected bits))); codes = codes_at (handed_on radius bits) }

@@ -1,14 +1,22 @@
 // A block's mark and codes, with its 63 protected bits as one number: the remainder eight bits at a time, the wrong places looked up, and the places turned in
-// the number. The tables are lent (document 02, P3). Of any tables it is said what comes out; with the true ones it is the block as it is read
-// (proofs/Words.antt).
+// the number (document 02, P3). Of a reader of any tables it is said what comes out; with the true ones it is the block as it is read (proofs/Words.antt).
 #![tactic(auto)]
 
 ghost use Rattle.std.specs.Prelude.{◌≡◌, ◌<◌};
 ghost use Rattle.bits.specs.Table.{tabulate};
 ghost use Rattle.reading.specs.Wrong.{answer};
-ghost use Rattle.words.specs.Words.{word_of, turned_at, righted, lower_in, code_in, told_by};
+ghost use Rattle.words.specs.Words.{word_of, turned_at, righted, lower_in, code_in, told_in, true_reader};
 
+use lookup::Lookup;
 use reading::Places;
+
+// The tables by which blocks are read. A constant is stored anew wherever its name stands, so whoever reads many blocks makes a reader once and lends it.
+#[derive(Drop)]
+pub struct Reader {
+    // what each byte leaves by the block's generator
+    pub remainders: [u32; 256],
+    pub lookup: Lookup,
+}
 
 // What is told of a block: its mark, 0 clean, 1 mended with one or two places turned, 4 with three, 2 bad, and the codes of its four channels.
 #[derive(Clone, Copy)]
@@ -24,21 +32,13 @@ struct Righted {
     word: u64,
 }
 
-fn long(x: u8) -> u64
-    ensures { (result ≡ x) × (result < 256) }
-{
-    x as u64
-}
-
 // The 63 protected bits as one number, the first the highest digit: seven, and then eight at a time.
 fn word_of(bits: [u8; 77]) -> u64
     ensures { result ≡ word_of bits }
 {
-    let mut word = long(bits::byte_from(&bits, 0) / 2);
-    let mut i: usize = 0;
-    while i < 7 {
-        word = word * 256 + long(bits::byte_from(&bits, 7 + 8 * i));
-        i += 1;
+    let mut word = u64::from(bits::byte_from(&bits, 0) / 2);
+    for i in 0..7 {
+        word = word * 256 + u64::from(bits::byte_from(&bits, 7 + 8 * i));
     }
     word
 }
@@ -75,19 +75,13 @@ fn mended(word: u64, places: Places) -> Righted
     }
 }
 
-fn wide(x: u8) -> u16
-    ensures { (result ≡ x) × (result < 256) }
-{
-    x as u16
-}
-
 // The three unprotected bits of a channel as a number.
 fn lower_in(bits: [u8; 77], channel: usize) -> u16
     requires { channel < 4 }
     ensures { (result ≡ lower_in bits channel) × (result < 8) }
 {
     let at = 63 + 3 * channel;
-    wide(bits[at] % 2 * 4 + bits[at + 1] % 2 * 2 + bits[at + 2] % 2)
+    u16::from(bits[at] % 2 * 4 + bits[at + 1] % 2 * 2 + bits[at + 2] % 2)
 }
 
 fn code_in(word: u64, bits: [u8; 77], channel: usize) -> i16
@@ -101,32 +95,30 @@ fn code_in(word: u64, bits: [u8; 77], channel: usize) -> i16
 fn codes_in(word: u64, bits: [u8; 77]) -> [i16; 4]
     ensures { result ≡ tabulate 4 (code_in word bits) }
 {
-    let mut out = [0i16; 4];
-    let mut channel: usize = 0;
-    while channel < 4 {
-        out[channel] = code_in(word, bits, channel);
-        channel += 1;
-    }
-    out
+    std::array::from_fn(|channel| code_in(word, bits, channel))
 }
 
-// An entry that is neither 0 nor 1 counts as its lowest binary digit. Three places are turned where the radius is 3 or more (document 02, P9).
-pub fn read_by(
-    table: &[u32; 256],
-    singles: &[u32; 63],
-    pairs: &[u32; 1953],
-    places: &[u16; 1953],
-    starts: &[u16; 257],
-    radius: u8,
-    bits: [u8; 77],
-) -> Told
-    ensures { result ≡ told_by table.now singles.now pairs.now places.now starts.now radius bits }
-{
-    let word = word_of(bits);
-    let remainder = eights::of_word(table, word);
-    let found = lookup::places_by(singles, pairs, places, starts, radius, remainder);
-    let right = mended(word, found);
-    let mark = right.mark;
-    let codes = codes_in(right.word, bits);
-    Told { mark, codes }
+impl Reader {
+    // With the true tables.
+    pub fn new() -> Reader
+        ensures { result ≡ true_reader }
+    {
+        Reader {
+            remainders: code::remainders(),
+            lookup: Lookup::new(),
+        }
+    }
+
+    // An entry that is neither 0 nor 1 counts as its lowest binary digit. Three places are turned where the radius is 3 or more (document 02, P9).
+    pub fn read(&self, radius: u8, bits: [u8; 77]) -> Told
+        ensures { result ≡ told_in self.now radius bits }
+    {
+        let word = word_of(bits);
+        let remainder = eights::of_word(&self.remainders, word);
+        let right = mended(word, self.lookup.places(radius, remainder));
+        Told {
+            mark: right.mark,
+            codes: codes_in(right.word, bits),
+        }
+    }
 }

@@ -1,6 +1,6 @@
 -- `block_codes::pattern_at` meets its contract: the number that the bits so far make. Assumes nothing.
 use mathlib.Core.Path.{◌≡◌}
-use Prim.Native.Nat.{◌-◌, ◌^◌, ◌<◌, ◌≤◌}
+use Prim.Native.Nat.{◌^◌, ◌<◌, ◌≤◌}
 use lib.ListN.{take}
 use Rattle.bits.specs.Digits.{value}
 use Rattle.block.specs.Layout.{fourteen}
@@ -9,6 +9,3 @@ use Rattle.block_codes.proofs.pattern_at.Given as goal
 abbrev pub invariant-loop-k : goal.invariant-loop-k
 invariant-loop-k l =
     (l.k ≤ 14) × (l.pattern < 2 ^ l.k) × (l.pattern ≡ value 2 (take l.k (fourteen l.bits l.channel)))
-
-abbrev pub decreases-loop-k : goal.decreases-loop-k
-decreases-loop-k l = 14 - l.k

@@ -10,6 +10,3 @@ use Rattle.lookup.proofs.first_in.Given as goal
 abbrev pub invariant-loop-k : goal.invariant-loop-k
 invariant-loop-k l =
     (l.end ≤ length l.list) × (l.end ≡ cond (ltb l.to (length l.list)) l.to (length l.list)) × (first_from l.list l.number l.k (l.end - l.k) ≡ first_from l.list l.number l.from (l.end - l.from))
-
-abbrev pub decreases-loop-k : goal.decreases-loop-k
-decreases-loop-k l = l.end - l.k

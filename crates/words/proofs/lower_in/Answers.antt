@@ -14,4 +14,4 @@ unfolding lower_in value tabulate
 returns c =
     let a = c.args in
     let first = ap (λ (n : ℕ). get_or a.bits n 0) (add-zero (63 + 3 * a.channel)) in
-    (omega (arith, c.wide.ensures.0, first), omega (arith, c.wide.ensures.0))
+    (omega (arith, c.from.ensures, first), omega (arith, c.from.ensures))

@@ -13,8 +13,8 @@ use Rattle.words.proofs.word_of.Goals as goal
 pub loop-i-init : goal.loop-i-init
 loop-i-init c =
     let bits = c.args.bits in
-    let first = c.long-word.ensures.0 ∙ ap (λ (b : ℕ). b / 2) c.byte_from.ensures ∙ first-seven bits in
-    (search rules, word_below bits 7 c.long-word.result first, first)
+    let first = c.from-word.ensures ∙ ap (λ (b : ℕ). b / 2) c.byte_from.ensures ∙ first-seven bits in
+    (search rules, word_below bits 7 c.from-word.result first, first)
 
 pub overflow_mul-word : goal.overflow_mul-word
 overflow_mul-word c = let room = pow_mono {i = 7 + 8 * c.loop-i.i} {j = 55} (omega arith) in search rules
@@ -31,9 +31,9 @@ loop-i-preserved c =
     let word = c.loop-i.word in
     let next : 7 + 8 * i + 8 ≡ 7 + 8 * (i + 1) = omega arith in
     let more =
-    ap (λ (b : ℕ). word * 256 + b) (c.long.ensures.0 ∙ c.byte_from-in-loop-i.ensures)
+    ap (λ (b : ℕ). word * 256 + b) (c.from.ensures ∙ c.byte_from-in-loop-i.ensures)
     ∙ eight-more bits (7 + 8 * i) word c.loop-i.invariant.2 ∙ ap (λ (n : ℕ). value 2 (tabulate n (digit bits))) next in
-    (search rules, word_below bits (7 + 8 * (i + 1)) (word * 256 + c.long.result) more, more)
+    (search rules, word_below bits (7 + 8 * (i + 1)) (word * 256 + c.from.result) more, more)
 
 pub returns : goal.returns
 unfolding word_of

@@ -1,4 +1,4 @@
--- `lookup::places_by` meets its contract: the code's tests are the definition's. Assumes nothing.
+-- `lookup::Lookup::places` meets its contract: the code's tests are the definition's. Assumes nothing.
 use mathlib.Core.Path.{sym, ap, ◌∙◌}
 use mathlib.Core.List.{[], ◌∷◌}
 use mathlib.Core.Option.{some}
@@ -8,7 +8,7 @@ use lib.Pow.{pow_pos}
 use Rattle.reading.specs.Wrong.{answer}
 use Rattle.lookup.specs.Search.{last_of, two_by}
 use Rattle.lookup.proofs.Search.{by-none, by_two, by_one, by-nowhere, by_three, even-low, odd_low}
-use Rattle.lookup.proofs.places_by.Goals as goal
+use Rattle.lookup.proofs.Lookup.places.Goals as goal
 
 pub returns-then-low-eq0 : goal.returns-then-low-eq0
 unfolding answer
@@ -17,7 +17,7 @@ returns-then-low-eq0 c = sym (by-none _ _ _ _ _ _ c.if-low-eq0.true)
 pub returns-then-low-eq0-2 : goal.returns-then-low-eq0-2
 returns-then-low-eq0-2 c =
     let r = c.args.remainder in
-    c.two_by.ensures
+    c.two.ensures
     ∙ ap (two_by _ _ _) (mod-eq_of_lt (mod-lt r (pow_pos 19)))
     ∙ sym (by_two _ _ _ _ _ r c.if-low-eq0.false (even-low r c.if-low-eq0-2.true))
 
@@ -40,5 +40,5 @@ pub returns : goal.returns
 returns c =
     let r = c.args.remainder in
     let none-alone : 63 ≤ last_of _ (r % 2 ^ 19) 63 = rw c.last_of-one.ensures at c.if-one-lt63.false in
-    c.three_by.ensures
+    c.three.ensures
     ∙ sym (by_three _ _ _ _ _ r c.if-low-eq0.false (odd_low r c.if-low-eq0-2.false) none-alone c.if-radius-lt3.false)
