@@ -1,4 +1,4 @@
-pub mod Header
+pub mod Numbers
 pub mod Run
 pub mod Unique
 pub mod Printed

@@ -1,8 +1,8 @@
 -- Laws of runs.
 --     empty-run                       no bytes are a run, which has no first superframe
 --     run-lengths, run-of-length      a run is a whole number of superframes, at most 1,000,000; and every such length is a run's
---     run-counted, no_run             what counting says of the bytes
---     part-inside, part-before, part-behind, part-no-run    the way to each number of a part
+--     run-counted                     what counting says of the bytes
+--     part-inside, part-before, part-behind, part-refused    the way to each number of a part
 --     part-there                      number 0 says that there is a run, and that it has this superframe
 --     length-superframe               a superframe of a run has 5,120 bytes
 --     first_of run n                   the first n superframes, one behind the other
@@ -18,9 +18,12 @@ use borrow.Author.Tests.{eq-eqb, le-leb, lt-leb, eqb-true, leb-true}
 use lib.Dec.{eqb, leb}
 use lib.ListN.{length, get_or, take, length-take, length-drop}
 use lib.Seq.{take-add, take_all}
-use Rattle.bits.specs.Answer.{accepted, refused}
-use Rattle.bits.proofs.Answer.{by-test, by-test-refused}
-use Rattle.bits.proofs.Tests.{both_true}
+use Rattle.bits.specs.Answer.{Answer, accepted, refused}
+use Rattle.bits.specs.Refused.{number_of}
+use Rattle.bits.specs.declared.refusal.Refusal.{Refusal}
+use Rattle.bits.proofs.Refused.{not_zero}
+use Rattle.bits.proofs.Answer.{by-test}
+use Rattle.bits.proofs.Tests.{both_true, either_way}
 use Rattle.reel.specs.Header.{most_superframes}
 use Rattle.reel.specs.Run.{superframe_bytes, count_of, is_run, superframe, run_of, part_number}
 
@@ -46,10 +49,6 @@ pub run-counted : (bytes : List ℕ) (n : ℕ) → accepted (n ∷ []) ≡ run_o
 unfolding run_of
 run-counted bytes n e = let way = by-test (is_run bytes) 0 (sym e) in (way.0, ap (λ (l : List ℕ). get_or l 0 0) way.1)
 
-pub no_run : (bytes : List ℕ) → refused 1 ≡ run_of bytes → is_run bytes ≡ false
-unfolding run_of
-no_run bytes e = by-test-refused (is_run bytes) (count_of bytes ∷ []) 1 0 (sym e)
-
 -- a number that is 1, 2 or 0 by two tests
 number-zero : (a b : Bool) → ◌≡◌ {A = ℕ} (cond a (cond b 0 2) 1) 0 → (a ≡ true) × (b ≡ true)
 number-zero true true e = (refl, refl)
@@ -70,9 +69,12 @@ module _ (run : List ℕ) (k : ℕ) where
   unfolding part_number
   part-behind e h l = rw (e, le-leb 1 k h, lt-leb k (count_of run) l)
 
-  pub part-no-run : is_run run ≡ false → 1 ≡ part_number run k
-  unfolding part_number
-  part-no-run e = rw e
+  -- what counting is refused for, asking is refused for
+  pub part-refused : (r : Refusal) → refused (number_of r) ≡ run_of run → number_of r ≡ part_number run k
+  unfolding run_of part_number
+  part-refused r e =
+      let number : number_of r ≡ (run_of run).number = ap (λ (a : Answer ℕ). a.number) e in
+      either_way (is_run run) (λ t. absurd (not_zero r (number ∙ rw t refl))) (λ t. number ∙ rw t refl)
 
   pub part-there : part_number run k ≡ 0 → (is_run run ≡ true) × (1 ≤ k) × (k ≤ count_of run)
   unfolding part_number

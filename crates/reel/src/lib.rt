@@ -3,20 +3,16 @@
 
 ghost use Rattle.std.specs.Prelude.{◌≡◌, ◌+◌, ◌<◌, ◌≤◌, length};
 ghost use Rattle.reel.specs.Header.{number_at, good_header, header_of, header_answer};
+ghost use Rattle.bits.specs.Refused.{number_in};
 ghost use Rattle.reel.specs.Run.{run_of, run_answer, part_number, part_of};
 
-// The count of superframes and the offset of the first, or number 8.
-#[derive(Clone, Copy)]
-pub enum HeaderRead {
-    Reel { count: u32, offset: u32 },
-    NoHeader,
-}
+use bits::Refusal;
 
-// How many superframes a run has, or number 1.
-#[derive(Clone, Copy)]
-pub enum RunCount {
-    Superframes(usize),
-    NoRun,
+// What a header says: the count of superframes and the offset of the first.
+#[derive(Clone, Copy, PartialEq, Eq, Debug)]
+pub struct Header {
+    pub count: u32,
+    pub offset: u32,
 }
 
 // The big-endian number in four bytes.
@@ -24,85 +20,73 @@ fn number_at(bytes: &[u8], at: usize) -> u32
     requires { at + 4 ≤ length bytes.now }
     ensures { result ≡ number_at bytes.now at }
 {
-    bits::wide(bytes[at]) * 16_777_216
-        + bits::wide(bytes[at + 1]) * 65_536
-        + bits::wide(bytes[at + 2]) * 256
-        + bits::wide(bytes[at + 3])
+    u32::from(bytes[at]) * 16_777_216
+        + u32::from(bytes[at + 1]) * 65_536
+        + u32::from(bytes[at + 2]) * 256
+        + u32::from(bytes[at + 3])
 }
 
 #[tactic(auto, unfolding(crate::specs::Header::good_header))]
 fn is_header(count: u32, offset: u32, summary: u32, entries: u32) -> bool
     ensures { result ≡ good_header count offset summary entries }
 {
-    if 1_000_000 < count {
-        return false;
-    }
-    if offset < 16 {
-        return false;
-    }
-    if summary != 0 {
-        return false;
-    }
-    entries == 0
+    count <= 1_000_000 && 16 <= offset && summary == 0 && entries == 0
 }
 
+// Refused with number 8 where the first 16 bytes are no good header, or are not there.
 #[tactic(auto, unfolding(crate::specs::Header::header_of))]
-pub fn read_header(bytes: &[u8]) -> HeaderRead
+pub fn read_header(bytes: &[u8]) -> Result<Header, Refusal>
     ensures { header_answer result ≡ header_of bytes.now }
 {
     if bytes.len() < 16 {
-        return HeaderRead::NoHeader;
+        return Err(Refusal::Header);
     }
     let count = number_at(bytes, 0);
     let offset = number_at(bytes, 4);
     let summary = number_at(bytes, 8);
     let entries = number_at(bytes, 12);
     if is_header(count, offset, summary, entries) {
-        return HeaderRead::Reel { count, offset };
+        return Ok(Header { count, offset });
     }
-    HeaderRead::NoHeader
+    Err(Refusal::Header)
 }
 
-pub fn run_count(bytes: &[u8]) -> RunCount
+// How many superframes a run has; refused with number 1 where the bytes are no run.
+pub fn run_count(bytes: &[u8]) -> Result<usize, Refusal>
     ensures { run_answer result ≡ run_of bytes.now }
 {
     let n = bytes.len();
     if n % 5120 != 0 {
-        return RunCount::NoRun;
+        return Err(Refusal::Length);
     }
     let superframes = n / 5120;
     if 1_000_000 < superframes {
-        return RunCount::NoRun;
+        return Err(Refusal::Length);
     }
-    RunCount::Superframes(superframes)
+    Ok(superframes)
 }
 
-// The number that asking for superframe k of a run gives, 0 where the part is handed back.
-pub fn superframe_number_of(run: &[u8], k: usize) -> u8
-    ensures { result ≡ part_number run.now k }
+// What asking for superframe k of a run is refused for: number 1 where there is no run, then number 2 where it has no such superframe.
+pub fn superframe_number_of(run: &[u8], k: usize) -> Result<(), Refusal>
+    ensures { number_in result ≡ part_number run.now k }
 {
-    match run_count(run) {
-        RunCount::NoRun => 1,
-        RunCount::Superframes(count) => {
-            if k < 1 {
-                return 2;
-            }
-            if count < k {
-                return 2;
-            }
-            0
-        }
+    let count = run_count(run)?;
+    if k < 1 || count < k {
+        return Err(Refusal::Range);
     }
+    Ok(())
 }
 
-// Superframe k of a run, counted from 1; an empty part where it is refused.
+// Superframe k of a run, counted from 1; where it is refused an empty part, as document 01 has it ("Numbers given").
 pub fn superframe_of<'a>(run: &'a [u8], k: usize) -> &'a [u8]
     ensures { result.now ≡ part_of run.now k }
 {
-    if superframe_number_of(run, k) != 0 {
-        return &run[0..0];
+    match superframe_number_of(run, k) {
+        Err(_) => &run[0..0],
+        Ok(()) => {
+            let start = (k - 1) * 5120;
+            let end = start + 5120;
+            &run[start..end]
+        }
     }
-    let start = (k - 1) * 5120;
-    let end = start + 5120;
-    &run[start..end]
 }

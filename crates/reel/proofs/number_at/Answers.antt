@@ -1,13 +1,13 @@
 -- `reel::number_at` meets its contract: a number by its four bytes. Assumes nothing.
-use Rattle.reel.proofs.Header.{number_at-is}
+use Rattle.reel.proofs.Numbers.{number_at-is}
 use Rattle.reel.proofs.number_at.Goals as goal
 
 pub returns : goal.returns
 returns c =
     rw (
-      c.wide.ensures.0,
-      c.wide-2.ensures.0,
-      c.wide-3.ensures.0,
-      c.wide-4.ensures.0,
+      c.from.ensures,
+      c.from-2.ensures,
+      c.from-3.ensures,
+      c.from-4.ensures,
     )
     (number_at-is _ _)

@@ -1,29 +1,23 @@
 -- `reel::superframe_number_of` meets its contract. Assumes nothing.
-use mathlib.Core.Path.{◌≡◌, sym, ap, ◌∙◌}
-use mathlib.Core.Bool.{true}
+use mathlib.Core.Path.{sym, ap, ◌∙◌}
+use mathlib.Core.Logic.{⊎_elim}
 use native.Mathlib.Omega.{arith}
-use Rattle.reel.specs.Run.{count_of, is_run, run_answer}
-use Rattle.reel.proofs.Run.{run-counted, no_run, part-inside, part-before, part-behind, part-no-run}
+use Rattle.std.proofs.lemmas.Result.{err_from_is_err_and}
+use Rattle.reel.specs.Run.{run_answer}
+use Rattle.reel.proofs.Run.{run-counted, part-refused, part-inside, part-before, part-behind}
 use Rattle.reel.proofs.superframe_number_of.Goals as goal
+
+pub returns-in_err-count : goal.returns-in_err-count
+returns-in_err-count c =
+    let handed = err_from_is_err_and c.from_residual.result c.from_residual.ensures.1 in
+    rw (handed.1, handed.2) (part-refused _ _ _ c.in_err-count.ensures)
 
 pub returns-then-k-lt1 : goal.returns-then-k-lt1
 returns-then-k-lt1 c =
-    let counted : (is_run c.args.run.now ≡ true) × (count_of c.args.run.now ≡ c.in-Superframes.count) = run-counted c.args.run.now c.in-Superframes.count (sym (ap run_answer c.in-Superframes.is) ∙ c.run_count.ensures) in
-    let run = counted in
-    part-before _ _ run.0 (omega arith)
+    let counted = run-counted c.args.run.now c.in_ok-count.count (sym (ap run_answer c.in_ok-count.was) ∙ c.run_count.ensures) in
+    ⊎_elim (λ h. part-before _ _ counted.0 h) (λ h. part-behind _ _ counted.0 h.0 (omega (arith, counted.1, h.1))) c.then-k-lt1.either
 
-pub returns-then-count-k : goal.returns-then-count-k
-returns-then-count-k c =
-    let counted : (is_run c.args.run.now ≡ true) × (count_of c.args.run.now ≡ c.in-Superframes.count) = run-counted c.args.run.now c.in-Superframes.count (sym (ap run_answer c.in-Superframes.is) ∙ c.run_count.ensures) in
-    let run = counted in
-    part-behind _ _ run.0 (omega arith) (omega arith)
-
-pub returns-in-NoRun : goal.returns-in-NoRun
-returns-in-NoRun c =
-    part-no-run _ _ (no_run _ (sym (ap run_answer c.in-NoRun.is) ∙ c.run_count.ensures))
-
-pub returns-else-count-k : goal.returns-else-count-k
-returns-else-count-k c =
-    let counted : (is_run c.args.run.now ≡ true) × (count_of c.args.run.now ≡ c.in-Superframes.count) = run-counted c.args.run.now c.in-Superframes.count (sym (ap run_answer c.in-Superframes.is) ∙ c.run_count.ensures) in
-    let run = counted in
-    part-inside _ _ run.0 (omega arith) (omega arith)
+pub returns : goal.returns
+returns c =
+    let counted = run-counted c.args.run.now c.in_ok-count.count (sym (ap run_answer c.in_ok-count.was) ∙ c.run_count.ensures) in
+    part-inside _ _ counted.0 (omega arith) (omega (arith, counted.1))

@@ -1,4 +1,4 @@
--- Laws of the header.
+-- Laws of the header's numbers.
 --     number_at-is      a big-endian number by its four bytes
 -- Assumes nothing.
 use mathlib.Core.Path.{◌≡◌}
