@@ -7,9 +7,10 @@
 use Rattle.std.specs.Prelude.{ℕ, zero, suc, Bool, cond, List, [], ◌∷◌, eqb, length, ℤ}
 use Rattle.bits.specs.Table.{every}
 use Rattle.bits.specs.Answer.{Answer, accepted, refused}
+use Rattle.bits.specs.Refused.{told}
+use Rattle.bits.specs.declared.refusal.Refusal.{Refusal}
+use Rattle.std.specs.declared.result.Result.{Result}
 use Rattle.sample.specs.Sample.{fits}
-use Rattle.sample.specs.declared.Chosen.{Chosen}
-use Rattle.sample.specs.declared.Chosen.TheVariants as C
 
 abbrev pub all_fit : ℕ → List ℤ → Bool
 all_fit s xs = every (fits s) xs
@@ -24,6 +25,5 @@ factor_of xs = largest 7 (λ s. all_fit s xs)
 unfoldable pub factor_answer : List ℤ → Answer ℕ
 factor_answer xs = cond (eqb (length xs) 64) (accepted (factor_of xs ∷ [])) (refused 1)
 
-abbrev pub chosen : Chosen → Answer ℕ
-chosen (C.Factor s) = accepted (s ∷ [])
-chosen C.Refused = refused 1
+abbrev pub chosen : Result ℕ Refusal → Answer ℕ
+chosen r = told (λ s. s ∷ []) r

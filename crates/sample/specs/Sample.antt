@@ -8,11 +8,10 @@
 use Rattle.std.specs.Prelude.{ℕ, ◌-◌, ◌^◌, Bool, cond, ◌&&◌, [], ◌∷◌, leb, ℤ, pos, neg_ℤ, ◌*ℤ◌}
 use Rattle.std.specs.Int.Signed.{shr_z}
 use Rattle.bits.specs.Answer.{Answer, accepted, refused}
+use Rattle.bits.specs.Refused.{told}
+use Rattle.bits.specs.declared.refusal.Refusal.{Refusal}
+use Rattle.std.specs.declared.result.Result.{Result}
 use Rattle.sample.specs.Signed.{between}
-use Rattle.sample.specs.declared.Coded.{Coded}
-use Rattle.sample.specs.declared.Coded.TheVariants as C
-use Rattle.sample.specs.declared.Sampled.{Sampled}
-use Rattle.sample.specs.declared.Sampled.TheVariants as S
 
 unfoldable pub fits : ℕ → ℤ → Bool
 fits s x = between (neg_ℤ (pos (2 ^ (15 - s)))) (pos (2 ^ (15 - s) - 1)) x
@@ -34,10 +33,8 @@ code_answer x s = cond (leb s 7 && fits s x) (accepted (code_of x s ∷ [])) (re
 unfoldable pub sample_answer : ℤ → ℕ → Answer ℤ
 sample_answer c s = cond (leb s 7 && is_code c) (accepted (sample_of c s ∷ [])) (refused 2)
 
-abbrev pub coded : Coded → Answer ℤ
-coded (C.Code c) = accepted (c ∷ [])
-coded C.Refused = refused 2
+abbrev pub coded : Result ℤ Refusal → Answer ℤ
+coded r = told (λ c. c ∷ []) r
 
-abbrev pub sampled : Sampled → Answer ℤ
-sampled (S.Sample x) = accepted (x ∷ [])
-sampled S.Refused = refused 2
+abbrev pub sampled : Result ℤ Refusal → Answer ℤ
+sampled r = told (λ x. x ∷ []) r

@@ -8,26 +8,7 @@ ghost use Rattle.std.specs.Int.Signed.{mag};
 ghost use Rattle.sample.specs.Sample.{is_code, code_answer, sample_answer, coded, sampled};
 ghost use Rattle.sample.specs.Factor.{all_fit, largest, factor_answer, chosen};
 
-#[derive(Clone, Copy)]
-pub enum Coded {
-    Code(i16),
-    // number 2
-    Refused,
-}
-
-#[derive(Clone, Copy)]
-pub enum Sampled {
-    Sample(i16),
-    // number 2
-    Refused,
-}
-
-#[derive(Clone, Copy)]
-pub enum Chosen {
-    Factor(u8),
-    // number 1
-    Refused,
-}
+use bits::Refusal;
 
 // How far a number reaches from 0: n for n and for -(n + 1). It lies from -h to h - 1 exactly where this is less than h.
 pub fn reach(z: i16) -> u16
@@ -43,32 +24,34 @@ pub fn is_code(code: i16) -> bool
     reach(code) < 8192
 }
 
+// Refused with number 2 where the factor is over 7 or the sample does not fit it.
 // A sample that fits times 2^factor still has 16 bits, and a division by 4 is left at every factor.
-pub fn code_of(sample: i16, factor: u8) -> Coded
+pub fn code_of(sample: i16, factor: u8) -> Result<i16, Refusal>
     ensures { coded result ≡ code_answer sample factor }
 {
     if 7 < factor {
-        return Coded::Refused;
+        return Err(Refusal::Range);
     }
     if 32768u16 >> factor <= reach(sample) {
-        return Coded::Refused;
+        return Err(Refusal::Range);
     }
     let grown = sample * (1i16 << factor);
-    Coded::Code(grown >> 2)
+    Ok(grown >> 2)
 }
 
+// Refused with number 2 where the factor is over 7 or the code has more than 14 bits.
 // Four times a code has 16 bits. The shift copies the sign, and so rounds down.
-pub fn sample_of(code: i16, factor: u8) -> Sampled
+pub fn sample_of(code: i16, factor: u8) -> Result<i16, Refusal>
     ensures { sampled result ≡ sample_answer code factor }
 {
     if 7 < factor {
-        return Sampled::Refused;
+        return Err(Refusal::Range);
     }
     if 8192 <= reach(code) {
-        return Sampled::Refused;
+        return Err(Refusal::Range);
     }
     let four = code * 4;
-    Sampled::Sample(four >> factor)
+    Ok(four >> factor)
 }
 
 // The farthest reach of any sample, which alone decides what factors they fit.
@@ -101,11 +84,12 @@ fn factor_for(most: u16) -> u8
     0
 }
 
-pub fn factor_of(samples: &[i16]) -> Chosen
+// Refused with number 1 for another number of samples than 64.
+pub fn factor_of(samples: &[i16]) -> Result<u8, Refusal>
     ensures { chosen result ≡ factor_answer samples.now }
 {
     if samples.len() != 64 {
-        return Chosen::Refused;
+        return Err(Refusal::Length);
     }
-    Chosen::Factor(factor_for(farthest(samples)))
+    Ok(factor_for(farthest(samples)))
 }
