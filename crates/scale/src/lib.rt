@@ -5,12 +5,7 @@ ghost use Rattle.std.specs.Prelude.{◌≡◌, ◌/◌, ◌%◌, ◌<◌};
 ghost use Rattle.bits.specs.Digits.{value, digits};
 ghost use Rattle.scale.specs.Word.{scale_word, written_scale};
 
-// Number 0 and the 14 bits of a scale word, or number 2 and zeros.
-#[derive(Clone, Copy)]
-pub struct Written {
-    pub number: u8,
-    pub bits: [u8; 14],
-}
+use bits::Refusal;
 
 // The scale word of two factors as a number, by their six bits, which are left * 8 + right.
 fn word_of(pair: u8) -> u32
@@ -25,36 +20,22 @@ fn word_of(pair: u8) -> u32
         pair / 2 % 2,
         pair % 2,
     ];
-    (pair as u32) * 256 + code::scale_check(&six)
+    u32::from(pair) * 256 + code::scale_check(&six)
 }
 
 fn bits_of(word: u32) -> [u8; 14]
     ensures { result ≡ digits 2 14 word }
 {
-    let mut bits = [0u8; 14];
-    let mut i: usize = 0;
-    while i < 14 {
-        bits[i] = ((word >> (13 - i)) % 2) as u8;
-        i += 1;
-    }
-    bits
+    std::array::from_fn(|i| ((word >> (13 - i)) % 2) as u8)
 }
 
-pub fn write(left: u8, right: u8) -> Written
+// Refused with number 2 for a factor over 7.
+#[tactic(auto, unfolding(crate::specs::Word::written_scale))]
+pub fn write(left: u8, right: u8) -> Result<[u8; 14], Refusal>
     ensures { result ≡ written_scale left right }
 {
-    if 7 < left {
-        return Written {
-            number: 2,
-            bits: [0u8; 14],
-        };
+    if 7 < left || 7 < right {
+        return Err(Refusal::Range);
     }
-    if 7 < right {
-        return Written {
-            number: 2,
-            bits: [0u8; 14],
-        };
-    }
-    let bits = bits_of(word_of(left * 8 + right));
-    Written { number: 0, bits }
+    Ok(bits_of(word_of(left * 8 + right)))
 }

@@ -18,4 +18,4 @@ returns c =
     let n = c.args.pair in
     let check : c.scale_check.result ≡ value 2 (check_bits scale_generator (digits 2 6 n)) =
     c.scale_check.ensures ∙ ap (λ l. value 2 (check_bits scale_generator l)) (six-digits n) in
-    ap (λ (x : ℕ). n * 256 + x) check ∙ sym (word_number n c.requires)
+    ap (λ (x : ℕ). x * 256 + c.scale_check.result) c.from.ensures ∙ ap (λ (x : ℕ). n * 256 + x) check ∙ sym (word_number n c.requires)
