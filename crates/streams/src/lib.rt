@@ -1,91 +1,72 @@
 // What a program reads and writes, with the failures told: a call of the system that fails is not the end of what it reads, and behind a write that
-// failed nothing is written. An error is C's number of it, and 0 is none. Which bytes come and go cannot be promised, as the system moves them.
+// failed nothing is written. Which bytes come and go cannot be promised, as the system moves them.
 #![tactic(auto)]
 
 mod arguments;
+mod errno;
 mod progress;
 
-ghost use Rattle.std.specs.Prelude.{◌≡◌, ◌<◌, ◌≤◌, pos, length};
+ghost use Rattle.std.specs.Prelude.{◌≡◌, ◌<◌, ◌≤◌, pos, length, IsOk};
 ghost use Rattle.io.specs.Counts.{IsPrefixLen};
-ghost use Rattle.streams.specs.Error.{error_of, Told};
+ghost use Rattle.streams.specs.Error.{error_of, Told, number_in, came_in};
 
 pub use arguments::argument;
+pub use errno::{Errno, failed};
 pub use progress::{show, wipe};
-use std::io;
 use std::io::{Read, Write};
 
-// A failure of input and output, by C's number of it.
-pub const EIO: u32 = 5;
-
-#[derive(Clone, Copy)]
-pub struct Filled {
-    // how many bytes came, at the start of the buffer
-    pub n: usize,
-    // 0 where they filled it, or where the input ended
-    pub error: u32,
+// A read that failed, behind the bytes that came at the start of the buffer.
+#[derive(Clone, Copy, PartialEq, Eq, Debug)]
+pub struct CutOff {
+    pub came: usize,
+    pub error: Errno,
 }
 
-// What was wrong with a call that failed, by C's number of it.
-fn error_of(number: i32) -> u32
-    ensures { result ≡ error_of number }
-{
-    if number < 1 {
-        return EIO;
-    }
-    number as u32
-}
+impl From<CutOff> for Errno {
+    ghost from_gives = { λ cut error. error ≡ cut.error };
 
-// What was wrong with a call of the system that has failed.
-pub fn failed(error: &io::Error) -> u32
-    ensures { Told result × (1 ≤ result) }
-{
-    match error.raw_os_error() {
-        Some(number) => error_of(number),
-        None => error_of(0),
+    fn from(cut: CutOff) -> Errno {
+        cut.error
     }
 }
 
-// Reads until the buffer is full, the input ends or a read fails. Where it is full, none failed.
-pub fn fill<R: Read>(from: &mut R, buf: &mut [u8]) -> Filled
-    ensures prefix_len { IsPrefixLen result.n buf.new }
-    ensures error_value { result.n ≡ length buf.new → result.error ≡ 0 }
+// Reads until the buffer is full, the input ends or a read fails, and answers how many bytes came. Where it is full, none failed.
+pub fn fill<R: Read>(from: &mut R, buf: &mut [u8]) -> Result<usize, CutOff>
+    ensures prefix_len { IsPrefixLen (came_in result) buf.new }
+    ensures error_value { came_in result ≡ length buf.new → IsOk result }
 {
-    let mut n: usize = 0;
-    while n < buf.len() {
-        match from.read(&mut buf[n..]) {
-            Ok(more) => {
-                if more == 0 {
-                    break;
-                }
-                n += more;
-            }
+    let mut came: usize = 0;
+    // no `for`: the system says how many bytes come at a time
+    while came < buf.len() {
+        match from.read(&mut buf[came..]) {
+            Ok(0) => break,
+            Ok(more) => came += more,
             Err(error) => {
-                return Filled {
-                    n: n,
+                return Err(CutOff {
+                    came,
                     error: failed(&error),
-                };
+                });
             }
         }
     }
-    Filled { n: n, error: 0 }
+    Ok(came)
 }
 
-// Writes all of these bytes, and answers the error.
-pub fn write<W: Write>(to: &mut W, bytes: &[u8]) -> u32
-    ensures { Told result }
+// Writes all of these bytes.
+pub fn write<W: Write>(to: &mut W, bytes: &[u8]) -> Result<(), Errno>
+    ensures { Told (number_in result) }
 {
-    match to.write_all(bytes) {
-        Ok(()) => 0,
-        Err(error) => failed(&error),
-    }
+    to.write_all(bytes)?;
+    Ok(())
 }
 
 // Writes the bytes of a page before a place. A place behind the page is none: nothing is written, and that is an error.
-pub fn write_first<W: Write>(to: &mut W, page: &[u8], end: usize) -> u32
-    ensures { length page.now < end → result ≡ error_of (pos 0) }
+#[tactic(auto, unfolding(crate::specs::Error::error_of))]
+pub fn write_first<W: Write>(to: &mut W, page: &[u8], end: usize) -> Result<(), Errno>
+    ensures { length page.now < end → number_in result ≡ error_of (pos 0) }
 {
-    if end <= page.len() {
-        return write(to, &page[0..end]);
+    match page.get(..end) {
+        Some(bytes) => write(to, bytes),
+        None => Err(Errno::EIO),
     }
-    error_of(0)
 }

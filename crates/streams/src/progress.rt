@@ -5,29 +5,24 @@ use std::io::{IsTerminal, Stderr};
 const OFTEN: u32 = 512;
 
 pub fn show(to: Stderr, done: u32, count: u32) {
-    if done % OFTEN != 0 {
-        return;
-    }
-    if !to.is_terminal() {
+    if done % OFTEN != 0 || !to.is_terminal() {
         return;
     }
     let mut to = to;
     let mut out = [0u8; 64];
-    let read = text::put_number(&mut out, 0, done as u64);
+    let read = text::put_number(&mut out, 0, u64::from(done));
     let of = text::put_all(&mut out, read, b" of ");
-    let number = text::put_number(&mut out, of, count as u64);
+    let number = text::put_number(&mut out, of, u64::from(count));
     let end = text::put_all(&mut out, number, b" superframes\r");
-    crate::write_first(&mut to, &out, end);
+    // nobody waits for the word: one that is not written is missing, and nothing else
+    let _ = crate::write_first(&mut to, &out, end);
 }
 
 // The line is wiped before anything else is said.
 pub fn wipe(to: Stderr, done: u32) {
-    if done < OFTEN {
-        return;
-    }
-    if !to.is_terminal() {
+    if done < OFTEN || !to.is_terminal() {
         return;
     }
     let mut to = to;
-    crate::write(&mut to, b"                                \r");
+    let _ = crate::write(&mut to, b"                                \r");
 }

@@ -1,5 +1,5 @@
 use Rattle.streams.specs.Error.{none}
 use Rattle.streams.proofs.write.Goals as goal
 
-pub returns-in-Ok : goal.returns-in-Ok
-returns-in-Ok g c = none
+pub returns : goal.returns
+returns g c = none

@@ -4,7 +4,7 @@ use mir.Syntax.{w32}
 use mir.ValLaws.{to_z-of_z}
 use Rattle.streams.specs.Error.{error_of}
 use Rattle.streams.proofs.Error.{above-nought}
-use Rattle.streams.proofs.error_of.Goals as goal
+use Rattle.streams.proofs.errno.error_of.Goals as goal
 
 pub returns-then-number-lt1 : goal.returns-then-number-lt1
 unfolding error_of
