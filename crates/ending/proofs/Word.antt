@@ -10,28 +10,29 @@ use mathlib.Core.List.{List, [], ◌∷◌, ◌++◌}
 use Prim.Native.Nat.{ℕ, ◌+◌, ◌*◌, ◌^◌, ◌<◌, ◌≤◌}
 use native.Mathlib.Omega.{arith}
 use lib.Dec.{eqb}
+use Rattle.std.specs.Prelude.{Result, Ok, Err}
 use lib.ListN.{length, get_or, length-append}
 use Rattle.bits.specs.Letters.{letters}
 use Rattle.text.specs.Digits.{blank, decimal}
 use Rattle.text.proofs.Decimal.{decimal-short}
 use Rattle.text.specs.Page.{Page, put_text}
-use Rattle.ending.specs.declared.Ended.{Ended}
-use Rattle.ending.specs.declared.Ended.TheVariants.{Whole, Short, HeaderShort, CountTooLarge, OffsetTooSmall, HasSummary, NoRadius, NotRead, NotWritten}
+use Rattle.ending.specs.declared.Fault.{Fault}
+use Rattle.ending.specs.declared.Fault.TheVariants.{Short, HeaderShort, CountTooLarge, OffsetTooSmall, HasSummary, NoRadius, NotRead, NotWritten}
 use Rattle.ending.specs.Word.{error_line, word_of}
 
-pub told-word : (p start : Page) (e e' : Ended) → e ≡ e' → p ≡ put_text start (word_of e') → p ≡ put_text start (word_of e)
-told-word p start e e' same put = put ∙ ap (λ (w : Ended). put_text start (word_of w)) (sym same)
+pub told-word : (p start : Page) (e e' : Result Unit Fault) → e ≡ e' → p ≡ put_text start (word_of e') → p ≡ put_text start (word_of e)
+told-word p start e e' same put = put ∙ ap (λ (w : Result Unit Fault). put_text start (word_of w)) (sym same)
 
-abbrev pub kind_of : Ended → ℕ
-kind_of Whole = 0
-kind_of Short = 1
-kind_of HeaderShort = 2
-kind_of CountTooLarge = 3
-kind_of OffsetTooSmall = 4
-kind_of HasSummary = 5
-kind_of (NotRead e) = 6
-kind_of (NotWritten e) = 7
-kind_of NoRadius = 8
+abbrev pub kind_of : Result Unit Fault → ℕ
+kind_of (Ok tt) = 0
+kind_of (Err Short) = 1
+kind_of (Err HeaderShort) = 2
+kind_of (Err CountTooLarge) = 3
+kind_of (Err OffsetTooSmall) = 4
+kind_of (Err HasSummary) = 5
+kind_of (Err (NotRead e)) = 6
+kind_of (Err (NotWritten e)) = 7
+kind_of (Err NoRadius) = 8
 
 -- the first two letters tell
 abbrev first_two : List ℕ → ℕ
@@ -47,19 +48,19 @@ heard w =
     (cond (eqb (first_two w) (first_two (letters "summary"))) 5
     (cond (eqb (first_two w) (first_two (letters "radius"))) 8 (cond (eqb (first_two w) (first_two (letters "read"))) 6 7)))))))
 
-heard-kind : (e : Ended) → heard (word_of e) ≡ kind_of e
+heard-kind : (e : Result Unit Fault) → heard (word_of e) ≡ kind_of e
 unfolding letters error_line
-heard-kind Whole = refl
-heard-kind Short = refl
-heard-kind HeaderShort = refl
-heard-kind CountTooLarge = refl
-heard-kind OffsetTooSmall = refl
-heard-kind HasSummary = refl
-heard-kind NoRadius = refl
-heard-kind (NotRead e) = refl
-heard-kind (NotWritten e) = refl
+heard-kind (Ok tt) = refl
+heard-kind (Err Short) = refl
+heard-kind (Err HeaderShort) = refl
+heard-kind (Err CountTooLarge) = refl
+heard-kind (Err OffsetTooSmall) = refl
+heard-kind (Err HasSummary) = refl
+heard-kind (Err NoRadius) = refl
+heard-kind (Err (NotRead e)) = refl
+heard-kind (Err (NotWritten e)) = refl
 
-pub words-apart : (e e' : Ended) → word_of e ≡ word_of e' → kind_of e ≡ kind_of e'
+pub words-apart : (e e' : Result Unit Fault) → word_of e ≡ word_of e' → kind_of e ≡ kind_of e'
 words-apart e e' same = sym (heard-kind e) ∙ (ap heard same ∙ heard-kind e')
 
 pub error-fits : (word : List ℕ) (n : ℕ) → n < 2 ^ 32 → length (error_line word n) ≤ length word + 12

@@ -19,17 +19,11 @@ fn path_of(fd: u8) -> &'static str {
 
 // Whether the descriptor itself is open for writing: its owner's bits, as the system shows them, say how it was opened.
 fn is_open_for_writing<R: Files>(files: &R, path: &str) -> bool {
-    match fs::symlink_metadata(files, path) {
-        Ok(metadata) => metadata.mode() & 0o200 != 0,
-        Err(_) => false,
-    }
+    fs::symlink_metadata(files, path).is_ok_and(|metadata| metadata.mode() & 0o200 != 0)
 }
 
 fn is_pipe<R: Files>(files: &R, path: &str) -> bool {
-    match fs::metadata(files, path) {
-        Ok(metadata) => metadata.file_type().is_fifo(),
-        Err(_) => false,
-    }
+    fs::metadata(files, path).is_ok_and(|metadata| metadata.file_type().is_fifo())
 }
 
 // Opens what stands there, to be written behind its end. A named pipe that nobody reads would keep the program waiting: so
@@ -48,10 +42,8 @@ pub(crate) fn write_first<R: Files>(files: &R, fd: u8, page: &[u8], end: usize) 
     if !is_open_for_writing(files, path) {
         return;
     }
-    match open(files, path) {
-        Ok(mut file) => {
-            streams::write_first(&mut file, page, end);
-        }
-        Err(_) => {}
+    if let Ok(mut file) = open(files, path) {
+        // who asked for the word finds that it is not there
+        let _ = streams::write_first(&mut file, page, end);
     }
 }

@@ -1,4 +1,5 @@
 -- `ending::put_error` meets its contract. Assumes nothing.
+use mathlib.Core.Path.{sym}
 use Rattle.text.proofs.Pages.{put_then}
 use Rattle.ending.specs.Word.{error_line}
 use Rattle.ending.proofs.put_error.Goals as goal
@@ -6,4 +7,4 @@ use Rattle.ending.proofs.put_error.Goals as goal
 pub returns : goal.returns
 unfolding error_line
 returns c =
-    put_then _ _ _ _ _ c.put_all-behind.ensures (put_then _ _ _ _ _ c.put_next-number.ensures c.put.ensures)
+    rw (sym c.from.ensures) (put_then _ _ _ _ _ c.put_all-behind.ensures (put_then _ _ _ _ _ c.put_next-number.ensures c.put.ensures))
