@@ -1,5 +1,4 @@
 -- Words of endings.
---     told-word       what was put for a way to end is what is said of it
 --     kind_of e        which of the nine ways to end this is
 --     words-apart     two ways to end that are said in the same word are of one kind
 --     error-fits      a line of an error of 32 bits has at most 12 letters more than its word, which is `read` or `write`
@@ -15,13 +14,9 @@ use lib.ListN.{length, get_or, length-append}
 use Rattle.bits.specs.Letters.{letters}
 use Rattle.text.specs.Digits.{blank, decimal}
 use Rattle.text.proofs.Decimal.{decimal-short}
-use Rattle.text.specs.Page.{Page, put_text}
 use Rattle.ending.specs.declared.Fault.{Fault}
 use Rattle.ending.specs.declared.Fault.TheVariants.{Short, HeaderShort, CountTooLarge, OffsetTooSmall, HasSummary, NoRadius, NotRead, NotWritten}
 use Rattle.ending.specs.Word.{error_line, word_of}
-
-pub told-word : (p start : Page) (e e' : Result Unit Fault) → e ≡ e' → p ≡ put_text start (word_of e') → p ≡ put_text start (word_of e)
-told-word p start e e' same put = put ∙ ap (λ (w : Result Unit Fault). put_text start (word_of w)) (sym same)
 
 abbrev pub kind_of : Result Unit Fault → ℕ
 kind_of (Ok tt) = 0

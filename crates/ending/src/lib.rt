@@ -5,12 +5,13 @@
 mod descriptor;
 
 ghost use Rattle.std.specs.Prelude.{◌≡◌};
-ghost use Rattle.text.specs.Page.{page, put_text};
+ghost use Rattle.text.specs.Pens.{Puts};
 ghost use Rattle.ending.specs.Word.{descriptor_of, ending_of, error_line, file_line, word_of};
 
 use std::env::Env;
 use std::rt::Files;
 use streams::Errno;
+use text::Pen;
 
 // Why a program did not read and write all that it should.
 #[derive(Clone, Copy, PartialEq, Eq, Debug)]
@@ -40,39 +41,39 @@ pub fn ending_of(promised: u32, read: u64) -> Result<(), Fault>
     Err(Fault::Short)
 }
 
-fn put_error(out: &mut [u8], to: usize, word: &[u8], error: Errno) -> usize
-    ensures { page out.new result ≡ put_text (page out.old to) (error_line word.now error.number) }
+fn put_error(pen: &mut Pen<'_>, word: &[u8], why: Errno)
+    ensures { Puts pen.old pen.new (error_line word.now why.number) }
 {
-    let behind = text::put_all(out, to, word);
-    let number = text::put_next(out, behind, u64::from(error.number));
-    text::put(out, number, b'\n')
+    pen.put_all(word);
+    pen.put_next(why);
+    pen.put(b'\n');
 }
 
 // The word of a file that failed, with its name.
-pub fn put_file(out: &mut [u8], to: usize, error: Errno, name: &[u8]) -> usize
-    ensures { page out.new result ≡ put_text (page out.old to) (file_line error.number name.now) }
+pub fn put_file(pen: &mut Pen<'_>, error: Errno, name: &[u8])
+    ensures { Puts pen.old pen.new (file_line error.number name.now) }
 {
-    let word = text::put_all(out, to, b"file");
-    let number = text::put_next(out, word, u64::from(error.number));
-    let blank = text::put(out, number, b' ');
-    let behind = text::put_all(out, blank, name);
-    text::put(out, behind, b'\n')
+    pen.put_all(b"file");
+    pen.put_next(error);
+    pen.put(b' ');
+    pen.put_all(name);
+    pen.put(b'\n');
 }
 
 #[tactic(auto, unfolding(crate::specs::Word::error_line, bits::specs::Letters::letters))]
-pub fn put_word(out: &mut [u8], to: usize, ended: Result<(), Fault>) -> usize
-    ensures { page out.new result ≡ put_text (page out.old to) (word_of ended) }
+pub fn put_word(pen: &mut Pen<'_>, ended: Result<(), Fault>)
+    ensures { Puts pen.old pen.new (word_of ended) }
 {
     match ended {
-        Ok(()) => text::put_all(out, to, b"ok\n"),
-        Err(Fault::Short) => text::put_all(out, to, b"short\n"),
-        Err(Fault::HeaderShort) => text::put_all(out, to, b"header\n"),
-        Err(Fault::CountTooLarge) => text::put_all(out, to, b"count\n"),
-        Err(Fault::OffsetTooSmall) => text::put_all(out, to, b"offset\n"),
-        Err(Fault::HasSummary) => text::put_all(out, to, b"summary\n"),
-        Err(Fault::NoRadius) => text::put_all(out, to, b"radius\n"),
-        Err(Fault::NotRead(error)) => put_error(out, to, b"read", error),
-        Err(Fault::NotWritten(error)) => put_error(out, to, b"write", error),
+        Ok(()) => pen.put_all(b"ok\n"),
+        Err(Fault::Short) => pen.put_all(b"short\n"),
+        Err(Fault::HeaderShort) => pen.put_all(b"header\n"),
+        Err(Fault::CountTooLarge) => pen.put_all(b"count\n"),
+        Err(Fault::OffsetTooSmall) => pen.put_all(b"offset\n"),
+        Err(Fault::HasSummary) => pen.put_all(b"summary\n"),
+        Err(Fault::NoRadius) => pen.put_all(b"radius\n"),
+        Err(Fault::NotRead(error)) => put_error(pen, b"read", error),
+        Err(Fault::NotWritten(error)) => put_error(pen, b"write", error),
     }
 }
 
@@ -99,13 +100,17 @@ fn write_word<R: Env + Files>(rt: &R, page: &[u8], end: usize) {
 // Says how the program ended, to whoever asked for it.
 pub fn say<R: Env + Files>(rt: &R, ended: Result<(), Fault>) {
     let mut out = [0u8; 32];
-    let end = put_word(&mut out, 0, ended);
+    let mut pen = Pen::new(&mut out, 0);
+    put_word(&mut pen, ended);
+    let end = pen.to;
     write_word(rt, &out, end);
 }
 
 // Says which file failed, by its name, and how.
 pub fn say_file<R: Env + Files>(rt: &R, error: Errno, name: &[u8]) {
     let mut out = [0u8; 64];
-    let end = put_file(&mut out, 0, error, name);
+    let mut pen = Pen::new(&mut out, 0);
+    put_file(&mut pen, error, name);
+    let end = pen.to;
     write_word(rt, &out, end);
 }

@@ -1,8 +1,10 @@
 // What was wrong with a call of the system that failed, by C's number of it.
 ghost use Rattle.std.specs.Prelude.{◌≡◌, ◌≤◌};
+ghost use Rattle.text.specs.Digits.{decimal};
 ghost use Rattle.streams.specs.Error.{error_of, Told};
 
 use std::io;
+use text::{Pen, Text};
 
 #[derive(Clone, Copy, PartialEq, Eq, Debug)]
 pub struct Errno {
@@ -41,5 +43,14 @@ impl From<io::Error> for Errno {
 
     fn from(error: io::Error) -> Errno {
         failed(&error)
+    }
+}
+
+// Its number in decimal.
+impl Text for Errno {
+    ghost text = { λ error. decimal error.number };
+
+    fn put_on(self, pen: &mut Pen<'_>) {
+        pen.put_text(u64::from(self.number));
     }
 }

@@ -1,5 +1,6 @@
 // A word now and then, while a long reel is read, for whoever watches: on one line of standard error, and only where that is a terminal.
 use std::io::{IsTerminal, Stderr};
+use text::Pen;
 
 // How many superframes go by between two words.
 const OFTEN: u32 = 512;
@@ -10,10 +11,12 @@ pub fn show(to: Stderr, done: u32, count: u32) {
     }
     let mut to = to;
     let mut out = [0u8; 64];
-    let read = text::put_number(&mut out, 0, u64::from(done));
-    let of = text::put_all(&mut out, read, b" of ");
-    let number = text::put_number(&mut out, of, u64::from(count));
-    let end = text::put_all(&mut out, number, b" superframes\r");
+    let mut pen = Pen::new(&mut out, 0);
+    pen.put_text(u64::from(done));
+    pen.put_all(b" of ");
+    pen.put_text(u64::from(count));
+    pen.put_all(b" superframes\r");
+    let end = pen.to;
     // nobody waits for the word: one that is not written is missing, and nothing else
     let _ = crate::write_first(&mut to, &out, end);
 }
