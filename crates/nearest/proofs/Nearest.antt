@@ -16,6 +16,7 @@ use Prim.Native.Nat.{ℕ, ◌+◌, ◌*◌, ◌/◌, ◌%◌, ◌≤◌, ◌<◌
 use native.Mathlib.Omega.{arith}
 use borrow.Author.Tests.{le-leb}
 use lib.ListN.{length}
+use Rattle.std.specs.declared.result.Result.TheVariants.{Ok}
 use Rattle.bits.specs.Answer.{accepted, refused}
 use Rattle.bits.specs.Bits.{ones, are_bits}
 use Rattle.bits.proofs.Answer.{accepted-same, never_both}
@@ -176,12 +177,11 @@ module _ (l r : ℕ) (h : l ≤ 7) (k : r ≤ 7) where
       near-back (sent l r ⊕ mask) (length-⊕ (sent l r) mask same ∙ length-sent) (omega arith)
       ∙ ap (λ (d : ℕ). accepted (l ∷ r ∷ d ∷ [])) is
 
-  pub written_back : scale_answer ((written_scale l r).bits ++ ((written_scale l r).bits ++ (written_scale l r).bits)) ≡ accepted (l ∷ r ∷ 0 ∷ [])
+  pub written_back : (w : List ℕ) × ((written_scale l r ≡ Ok w) × (scale_answer (w ++ (w ++ w)) ≡ accepted (l ∷ r ∷ 0 ∷ [])))
   unfolding written_scale scale_answer
   written_back =
       let w = scale_word l r in
       let b = below-scale_word l r in
       let all : are_bits (w ++ (w ++ w)) ≡ true = below-bits (w ++ (w ++ w)) (below-append 2 w (w ++ w) b (below-append 2 w w b b)) in
       let none : differs l r (sent l r) ≡ 0 = distance_self (sent l r) in
-      rw (le-leb l 7 h, le-leb r 7 k, all)
-      (near-back (sent l r) length-sent (omega arith) ∙ ap (λ (d : ℕ). accepted (l ∷ r ∷ d ∷ [])) none)
+      (w, (rw (le-leb l 7 h, le-leb r 7 k), rw all (near-back (sent l r) length-sent (omega arith) ∙ ap (λ (d : ℕ). accepted (l ∷ r ∷ d ∷ [])) none)))

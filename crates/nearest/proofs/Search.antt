@@ -1,5 +1,6 @@
 -- The best of the pairs so far, as the code keeps it.
 --     told-alone, told-shared   what it reads as, by whether it is the only one
+--     told_or, factors-told     what the code makes of it
 --     start, step               of the first pair, and with one more
 --     holds-single, holds-shared    what the best of all 64 says
 --     holds-told                it reads as the definition says
@@ -16,8 +17,14 @@ use borrow.Author.Tests.{eqb-true, eqb-false, ltb-true, ltb-false}
 use lib.Dec.{eqb, ltb}
 use Rattle.bits.specs.Answer.{accepted, refused}
 use Rattle.bits.proofs.Tests.{either_way}
-use Rattle.nearest.specs.Reading.{away, read_scale}
-use Rattle.nearest.specs.Search.{better_of, Holds, best_told}
+use Rattle.std.specs.Option.{ok_or}
+use Rattle.std.specs.declared.option.Option.{Option}
+use Rattle.std.specs.declared.option.Option.TheVariants.{Some, None}
+use Rattle.bits.specs.declared.refusal.Refusal.TheVariants.{Scale}
+use Rattle.nearest.specs.Reading.{away, read_scale, factors_told}
+use Rattle.nearest.specs.Extra.{factors_in}
+use Rattle.nearest.specs.declared.Factors.{Factors}
+use Rattle.nearest.specs.Search.{better_of, Holds, best_told, nearest_told}
 use Rattle.nearest.specs.declared.Best.{Best}
 use Rattle.nearest.proofs.Fewest.{Single, Shared, single-read, shared-read}
 
@@ -29,6 +36,15 @@ module _ (s : Best) where
   pub told-shared : s.alone ≡ false → best_told s ≡ refused 5
   unfolding best_told
   told-shared f = rw f
+
+-- what the code makes of it tells what it reads as
+pub told_or : (o : Option Factors) → factors_told (ok_or o Scale) ≡ nearest_told o
+told_or (Some f) = refl
+told_or None = refl
+
+pub factors-told : (o : Option Factors) → factors_in (nearest_told o) ≡ o
+factors-told (Some f) = refl
+factors-told None = refl
 
 module _ (bits : List ℕ) where
   -- ---- the best so far

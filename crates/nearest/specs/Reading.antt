@@ -11,10 +11,12 @@
 use Rattle.std.specs.Prelude.{ℕ, zero, suc, ◌/◌, ◌%◌, min, cond, List, [], ◌∷◌, ◌++◌, eqb}
 use Rattle.bits.specs.Bits.{are_bits}
 use Rattle.bits.specs.Answer.{Answer, accepted, refused}
+use Rattle.bits.specs.Refused.{told}
+use Rattle.bits.specs.declared.refusal.Refusal.{Refusal}
+use Rattle.std.specs.declared.result.Result.{Result}
 use Rattle.code.specs.Words.{distance}
 use Rattle.scale.specs.Word.{scale_word}
-use Rattle.nearest.specs.declared.Reading.{Reading}
-use Rattle.nearest.specs.declared.Reading.TheVariants.{Factors, Unreadable, OutOfRange}
+use Rattle.nearest.specs.declared.Factors.{Factors}
 
 abbrev pub thrice : List ℕ → List ℕ
 thrice w = w ++ (w ++ w)
@@ -41,7 +43,5 @@ read_scale bits = only (fewest bits 63) (pairs_at bits (fewest bits 63) 64)
 unfoldable pub scale_answer : List ℕ → Answer ℕ
 scale_answer bits = cond (are_bits bits) (read_scale bits) (refused 2)
 
-abbrev pub factors_told : Reading → Answer ℕ
-factors_told (Factors l r n) = accepted (l ∷ r ∷ n ∷ [])
-factors_told Unreadable = refused 5
-factors_told OutOfRange = refused 2
+abbrev pub factors_told : Result Factors Refusal → Answer ℕ
+factors_told r = told (λ (f : Factors). f.left ∷ f.right ∷ f.places ∷ []) r

@@ -4,13 +4,17 @@
 --     better_of s n d        the best so far, with pair n, which differs in d places
 --     Holds bits k s        s is the best of the pairs below k: one that differs in the fewest places, their number, and whether it is the only one
 --     best_told s            what the best of all 64 reads as
+--     nearest_told r         the same of what the code makes of it
 use Rattle.std.specs.Prelude.{◌≡◌, true, false, cond, List, [], ◌∷◌, ℕ, ◌+◌, ◌/◌, ◌%◌, ◌≤◌, ◌<◌, eqb, ltb, get_or}
 use Rattle.bits.specs.Answer.{Answer, accepted, refused}
 use Rattle.bits.specs.Digits.{value}
 use Rattle.bits.specs.Table.{tabulate}
 use Rattle.scale.specs.Word.{scale_word}
 use Rattle.nearest.specs.Reading.{thrice, away}
+use Rattle.std.specs.declared.option.Option.{Option}
+use Rattle.std.specs.declared.option.Option.TheVariants.{Some, None}
 use Rattle.nearest.specs.declared.Best.{Best}
+use Rattle.nearest.specs.declared.Factors.{Factors}
 
 unfoldable pub sent_table : List ℕ
 sent_table = tabulate 64 (λ n. value 2 (thrice (scale_word (n / 8) (n % 8))))
@@ -32,3 +36,7 @@ pub record Holds (bits : List ℕ) (k : ℕ) (s : Best) : Type 0 where
 
 unfoldable pub best_told : Best → Answer ℕ
 best_told s = cond s.alone (accepted (s.pair / 8 ∷ s.pair % 8 ∷ s.places ∷ [])) (refused 5)
+
+abbrev pub nearest_told : Option Factors → Answer ℕ
+nearest_told (Some f) = accepted (f.left ∷ f.right ∷ f.places ∷ [])
+nearest_told None = refused 5

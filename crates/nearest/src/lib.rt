@@ -7,26 +7,24 @@ ghost use Rattle.std.specs.Prelude.{◌≡◌, ◌≤◌, ◌<◌, ◌^◌};
 ghost use Rattle.bits.specs.Digits.{value, digits};
 ghost use Rattle.nearest.specs.Reading.{away, read_scale, scale_answer, factors_told};
 ghost use Rattle.nearest.specs.Extra.{extra_answer};
-ghost use Rattle.nearest.specs.Search.{sent_table, bits_from, better_of, Holds, best_told};
+ghost use Rattle.nearest.specs.Search.{sent_table, bits_from, better_of, Holds, best_told, nearest_told};
 
+use bits::Refusal;
 use sent_table::SENT;
 
-// What 42 bits read as: number 0, the left and the right factor, and in how many of the 42 places their word differs; number 5; or number 2.
-#[derive(Clone, Copy)]
-pub enum Reading {
-    Factors(u8, u8, u8),
-    Unreadable,
-    OutOfRange,
-}
-
-// What the 64 extra bits of a programme read as. With number 5 the word comes all the same; what does not come is 0.
-#[derive(Clone, Copy)]
-pub struct Extra {
-    pub number: u8,
+// The factors whose scale word, sent three times, is the nearest, and in how many of the 42 places it differs.
+#[derive(Clone, Copy, PartialEq, Eq, Debug)]
+pub struct Factors {
     pub left: u8,
     pub right: u8,
-    // in how many of the 42 the scale word of these factors, sent three times, differs
     pub places: u8,
+}
+
+// What the 64 extra bits of a programme read as. The word comes whatever the factors read as.
+#[derive(Clone, Copy, PartialEq, Eq, Debug)]
+pub struct Extra {
+    // None is number 5
+    pub factors: Option<Factors>,
     pub word: u32,
 }
 
@@ -50,10 +48,8 @@ fn number_from(bits: &[u8], at: usize, n: usize) -> u64
     ensures { result ≡ value 2 (bits_from bits.now at n) }
 {
     let mut sum: u64 = 0;
-    let mut j: usize = 0;
-    while j < n {
-        sum = sum * 2 + (bits::byte_of(bits, at + j) % 2) as u64;
-        j += 1;
+    for j in 0..n {
+        sum = sum * 2 + u64::from(bits::byte_of(bits, at + j) % 2);
     }
     sum
 }
@@ -62,7 +58,7 @@ fn far(words: &[u64; 64], number: u64, pair: u8) -> u8
     requires { (words.now ≡ sent_table) × (number < 2 ^ 42) × (pair < 64) }
     ensures { result ≡ away (digits 2 42 number) pair }
 {
-    u64::count_ones(words[pair as usize] ^ number) as u8
+    u64::count_ones(words[usize::from(pair)] ^ number) as u8
 }
 
 // One pair more.
@@ -78,9 +74,8 @@ fn better(best: Best, pair: u8, places: u8) -> Best
     }
     if places == best.places {
         return Best {
-            pair: best.pair,
-            places: best.places,
             alone: false,
+            ..best
         };
     }
     best
@@ -95,11 +90,8 @@ fn best_of(words: &[u64; 64], number: u64) -> Best
         places: far(words, number, 0),
         alone: true,
     };
-    let mut k: u8 = 1;
-    while k < 64 {
-        let next = better(best, k, far(words, number, k));
-        best = next;
-        k += 1;
+    for k in 1..64u8 {
+        best = better(best, k, far(words, number, k));
     }
     best
 }
@@ -123,49 +115,38 @@ fn nearest_in(bits: &[u8]) -> Best
     best_of(&words, number)
 }
 
-pub fn read(bits: [u8; 42]) -> Reading
+// Its factors, where it is the only one.
+fn factors_of(best: Best) -> Option<Factors>
+    ensures { nearest_told result ≡ best_told best }
+{
+    if best.alone {
+        return Some(Factors {
+            left: best.pair / 8,
+            right: best.pair % 8,
+            places: best.places,
+        });
+    }
+    None
+}
+
+// Refused with number 2 where an entry is not 0 or 1, then with number 5 where two or more scale words are equally near and none is nearer.
+pub fn read(bits: [u8; 42]) -> Result<Factors, Refusal>
     ensures { factors_told result ≡ scale_answer bits }
 {
     if !bits::are_bits(&bits) {
-        return Reading::OutOfRange;
+        return Err(Refusal::Range);
     }
-    let found = nearest_in(&bits);
-    if found.alone {
-        Reading::Factors(found.pair / 8, found.pair % 8, found.places)
-    } else {
-        Reading::Unreadable
-    }
+    factors_of(nearest_in(&bits)).ok_or(Refusal::Scale)
 }
 
-pub fn read_extra(bits: [u8; 64]) -> Extra
+// Refused with number 2 where an entry is not 0 or 1.
+pub fn read_extra(bits: [u8; 64]) -> Result<Extra, Refusal>
     ensures { result ≡ extra_answer bits }
 {
     if !bits::are_bits(&bits) {
-        return Extra {
-            number: 2,
-            left: 0,
-            right: 0,
-            places: 0,
-            word: 0,
-        };
+        return Err(Refusal::Range);
     }
+    let factors = factors_of(nearest_in(&bits));
     let word = number_from(&bits, 42, 22) as u32;
-    let found = nearest_in(&bits);
-    if found.alone {
-        Extra {
-            number: 0,
-            left: found.pair / 8,
-            right: found.pair % 8,
-            places: found.places,
-            word,
-        }
-    } else {
-        Extra {
-            number: 5,
-            left: 0,
-            right: 0,
-            places: 0,
-            word,
-        }
-    }
+    Ok(Extra { factors, word })
 }

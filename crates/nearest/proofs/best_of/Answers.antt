@@ -19,9 +19,9 @@ pub loop-k-preserved : goal.loop-k-preserved
 loop-k-preserved c =
     let l = c.loop-k in
     let bits : List ℕ = digits 2 42 c.args.number in
-    let is : c.better-next.result ≡ better_of l.best l.k (away bits l.k) = c.better-next.ensures ∙ ap (better_of l.best l.k) c.far-in-loop-k.ensures in (
+    let is : c.better-best.result ≡ better_of l.best l.k (away bits l.k) = c.better-best.ensures ∙ ap (better_of l.best l.k) c.far-in-loop-k.ensures in (
       search rules,
-      subst (λ (n : ℕ). Holds bits n c.better-next.result) (sym (add-one l.k))
+      subst (λ (n : ℕ). Holds bits n c.better-best.result) (sym (add-one l.k))
           (subst (λ (s : Best). Holds bits (suc l.k) s) (sym is) (step bits l.k l.best l.invariant.1)),
     )
 

@@ -34,7 +34,7 @@ pub loop-j-preserved : goal.loop-j-preserved
 loop-j-preserved c =
     let l = c.loop-j in
     let given = c.args in
-    let bit : c.byte_of.result % 2 ≡ get_or given.bits.now (given.at + l.j) 0 % 2 = ap (λ (x : ℕ). x % 2) c.byte_of.ensures in
+    let bit : c.from.result ≡ get_or given.bits.now (given.at + l.j) 0 % 2 = c.from.ensures ∙ ap (λ (x : ℕ). x % 2) c.byte_of.ensures in
     (search rules, ap₂ (λ (x y : ℕ). x * 2 + y) l.invariant.1 bit ∙ sym (number_more given.bits.now given.at l.j))
 
 pub returns : goal.returns
