@@ -13,9 +13,10 @@ use Prim.Native.Nat.{ℕ, ◌%◌}
 use native.Mathlib.Omega.{arith}
 use lib.IntN.{pos}
 use lib.ListN.{get_or, get_or-replicate}
+use Rattle.bits.specs.Refused.{number_in}
 use Rattle.bits.specs.Table.{tabulate}
 use Rattle.bits.proofs.Table.{tab-ext}
-use Rattle.superframe.specs.State.{missing, lost_state, lost_with}
+use Rattle.superframe.specs.State.{missing, lost_state, lost_with, after_loss}
 use Rattle.sound.specs.Sound.{sound_at, mark_with, sample_at, mark_at, in_rows, samples_of, marks_of}
 use Rattle.beside.specs.Beside.{programmes_of}
 use Rattle.superframe.specs.Take.{beside_with, refused_with, take_answer}
@@ -79,18 +80,18 @@ module _ (s : State) (first : Call s) (second : Call first.answer.next) where
   loss-none third a b = silent-at second.answer.next third (moved first.answer.next second b ∙ ap (λ (t : State). t.after) (lost-state s first a))
 
 -- ---- a superframe that is lost through `lose`
-pub two-ahead-lose : (s : State) (first : Call s) (third : Call (lost_with first.answer.next).next) → Accepted first → (lost_with first.answer.next).number ≡ 0
+pub two-ahead-lose : (s : State) (first : Call s) (third : Call (after_loss first.answer.next)) → Accepted first → number_in (lost_with first.answer.next) ≡ 0
     → Accepted third → HeardAt third (programmes_of first.bytes).factors
 two-ahead-lose s first third a b =
     let t = first.answer.next in
-    heard-at (lost_with t).next third _ ((lose-keeps-first t b).0 ∙ (taken_next s first a).1)
+    heard-at (after_loss t) third _ ((lose-keeps-first t b).0 ∙ (taken_next s first a).1)
 
-module _ (s : State) (h : (lost_with s).number ≡ 0) where
-  pub lose-next : (second : Call (lost_with s).next) → Accepted second → HeardAt second s.after
-  lose-next second = heard-at (lost_with s).next second _ (lose-keeps-first s h).0
+module _ (s : State) (h : number_in (lost_with s) ≡ 0) where
+  pub lose-next : (second : Call (after_loss s)) → Accepted second → HeardAt second s.after
+  lose-next second = heard-at (after_loss s) second _ (lose-keeps-first s h).0
 
-  pub lose-none : (second : Call (lost_with s).next) (third : Call second.answer.next) → Accepted second ⊎ LostIn second → Accepted third → Silent third
-  lose-none second third b = silent-at second.answer.next third (moved (lost_with s).next second b ∙ (lose-keeps-first s h).1)
+  pub lose-none : (second : Call (after_loss s)) (third : Call second.answer.next) → Accepted second ⊎ LostIn second → Accepted third → Silent third
+  lose-none second third b = silent-at second.answer.next third (moved (after_loss s) second b ∙ (lose-keeps-first s h).1)
 
-  pub lose-lose-none : (lost_with (lost_with s).next).number ≡ 0 → (third : Call (lost_with (lost_with s).next).next) → Accepted third → Silent third
-  lose-lose-none again third = silent-at (lost_with (lost_with s).next).next third (rw (lose-twice s h again))
+  pub lose-lose-none : number_in (lost_with (after_loss s)) ≡ 0 → (third : Call (after_loss (after_loss s))) → Accepted third → Silent third
+  lose-lose-none again third = silent-at (after_loss (after_loss s)) third (rw (lose-twice s h again))

@@ -25,7 +25,7 @@ use Rattle.tape.specs.Tape.{blocks_of, refused_counts, counted_with, sync_number
 use Rattle.running.specs.Running.{has_room}
 use Rattle.sound.specs.Sound.{lengths_fit}
 use Rattle.beside.specs.Beside.{number_at, programmes_of, six_and_sync}
-use Rattle.superframe.specs.State.{service_of, state_in_range}
+use Rattle.superframe.specs.State.{state_in_range}
 use Rattle.superframe.specs.Take.{takable, take_number, served_in, beside_with, no_programmes, refused_with, take_answer}
 use Rattle.superframe.proofs.Refusals as of
 use Rattle.superframe.proofs.Serving.{taken-range, taken-radius}
@@ -38,7 +38,7 @@ use Rattle.history.proofs.Ranges.{service-fact}
 served-number : (s : State) (sf : List ℕ) → state_in_range s ≡ true → ((served_in s sf).number ≡ 0) ⊎ ((served_in s sf).number ≡ 7)
 unfolding kind_of
 served-number s sf h =
-    rw (served-is (service_of s) (six_and_sync sf).six (service-fact s h) (six_and_sync sf).sync (sync-below sf))
+    rw (served-is s.service (six_and_sync sf).six (service-fact s h) (six_and_sync sf).sync (sync-below sf))
     (either_way (agree (six_and_sync sf).sync sync1)
     (λ t. rw t (inl refl))
     (λ t. rw t (either_way (agree (six_and_sync sf).sync sync2) (λ u. rw u (inl refl)) (λ u. rw u (inr refl)))))

@@ -38,7 +38,7 @@ use Rattle.beside.proofs.Scales.{extra-bits-below}
 use Rattle.beside.proofs.Stands.{five-missing}
 use Rattle.running.specs.Running.{with_taken}
 use Rattle.running.specs.declared.Running.{Running}
-use Rattle.superframe.specs.State.{service_of, joined_state, state_in_range}
+use Rattle.superframe.specs.State.{joined_state, state_in_range}
 use Rattle.superframe.specs.Take.{takable, take_number, beside_with, refused_with, take_answer}
 use Rattle.superframe.specs.declared.state.State.{State}
 use Rattle.superframe.specs.declared.taking.Taken.{Taken}
@@ -79,7 +79,7 @@ number_same radius s s' sf sf' samples marks e f g h = rw (e, f, g, h)
 moved-in-range : (s : State) (k : Call s) → Accepted k ⊎ LostIn k → state_in_range k.answer.next ≡ true
 moved-in-range s k = ⊎_elim (λ z. take-in-range s k (accepted-in-range s k z)) (λ z. take-in-range s k (lost-range s k z))
 
-answers-same : (radius n : ℕ) (s s' : State) (sf : List ℕ) → service_of s ≡ service_of s' → SameAnswer (take_answer radius n s sf) (take_answer radius n s' sf)
+answers-same : (radius n : ℕ) (s s' : State) (sf : List ℕ) → s.service ≡ s'.service → SameAnswer (take_answer radius n s sf) (take_answer radius n s' sf)
 unfolding take_answer beside_with refused_with
 answers-same radius n s s' sf e = either_way (eqb n 0) (λ t. rw (t, e)) (λ t. rw t)
 
@@ -250,7 +250,7 @@ module _ (q : ℕ) (low : 1 ≤ q) (high : q ≤ 16) (sf sf' : List ℕ) (d : On
 joined_same : (t t' : State) → Alike ◌≡◌ ◌≡◌ t t' → t ≡ t'
 joined_same t t' h =
     ap₂ (λ (f : List ℕ) (v : Service). joined_state (record { next = f; after = t.after }) v t.totals) h.next h.service
-    ∙ ap₂ (λ (f : List ℕ) (n : Running). joined_state (record { next = t'.next; after = f }) (service_of t') n) h.after h.totals
+    ∙ ap₂ (λ (f : List ℕ) (n : Running). joined_state (record { next = t'.next; after = f }) t'.service n) h.after h.totals
 
 module _ {q : ℕ} (s s' : State) (k : Call s) (k' : Call s') (bytes : k.bytes ≡ k'.bytes) (lent : LentAlike k k') (number : k.answer.number ≡ k'.answer.number)
     {R : List ℕ → List ℕ → Type 0} (alike : Alike (OffProgramme q) R s s') where

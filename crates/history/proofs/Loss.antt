@@ -13,12 +13,14 @@ use mathlib.Core.List.{List}
 use Prim.Native.Nat.{ℕ}
 use native.Mathlib.Omega.{arith}
 use Rattle.bits.specs.Table.{every}
+use Rattle.std.specs.declared.result.Result.TheVariants.{Ok}
 use Rattle.bits.specs.Bits.{all_below}
+use Rattle.bits.specs.Refused.{number_in}
 use Rattle.bits.proofs.Tests.{either_way, both, both_right}
 use Rattle.service.specs.Service.{searching_service, in_range}
 use Rattle.running.specs.Running.{has_room, no_running, with_lost}
 use Rattle.running.proofs.Ranges as running
-use Rattle.superframe.specs.State.{missing, factors_of, service_of, joined_state, fresh_state, state_in_range, lost_factors, lost_state, lost_with, serviced_with}
+use Rattle.superframe.specs.State.{missing, factors_of, joined_state, fresh_state, state_in_range, lost_factors, lost_state, lost_with, serviced_with, after_loss}
 use Rattle.superframe.proofs.Parts.{factors-in-range, running-in-range, joined-in-range}
 use Rattle.superframe.specs.declared.state.State.{State}
 
@@ -41,29 +43,29 @@ lost-in-range s h r =
     joined-in-range (lost_factors (factors_of s)) searching_service (with_lost s.totals)
     (both _ _ known missing-in-range) searching-in-range (running.lost-in-range s.totals (running-in-range s h) r)
 
-module _ (s : State) (a : (lost_with s).number ≡ 0) where
+module _ (s : State) (a : number_in (lost_with s) ≡ 0) where
   pub lose-free : (state_in_range s ≡ true) × (has_room s.totals ≡ true)
   unfolding lost_with
   lose-free =
       either_way (state_in_range s)
       (λ t. either_way (has_room s.totals)
       (λ u. (t, u))
-      (λ u. let nine : (lost_with s).number ≡ 9 = rw (t, u) in absurd (omega (arith, a, nine))))
-      (λ t. let two : (lost_with s).number ≡ 2 = rw t in absurd (omega (arith, a, two)))
+      (λ u. let nine : number_in (lost_with s) ≡ 9 = rw (t, u) in absurd (omega (arith, a, nine))))
+      (λ t. let two : number_in (lost_with s) ≡ 2 = rw t in absurd (omega (arith, a, two)))
 
-  pub lose-accepted : lost_with s ≡ record { number = 0; next = lost_state s }
+  pub lose-accepted : lost_with s ≡ Ok (lost_state s)
   unfolding lost_with
   lose-accepted = rw (lose-free.0, lose-free.1)
 
-  pub lose-keeps-first : ((lost_with s).next.next ≡ s.after) × ((lost_with s).next.after ≡ missing)
+  pub lose-keeps-first : ((after_loss s).next ≡ s.after) × ((after_loss s).after ≡ missing)
   lose-keeps-first = (rw lose-accepted, rw lose-accepted)
 
-  pub lose-is-fresh-else : (lost_with s).next ≡ joined_state (record { next = s.after; after = fresh_state.after }) (service_of fresh_state) (with_lost s.totals)
+  pub lose-is-fresh-else : after_loss s ≡ joined_state (record { next = s.after; after = fresh_state.after }) fresh_state.service (with_lost s.totals)
   lose-is-fresh-else = rw lose-accepted
 
-pub lose-twice : (s : State) → (lost_with s).number ≡ 0 → (lost_with (lost_with s).next).number ≡ 0
-    → (lost_with (lost_with s).next).next ≡ joined_state (factors_of fresh_state) (service_of fresh_state) (with_lost (with_lost s.totals))
-lose-twice s a b = rw (lose-accepted (lost_with s).next b, lose-accepted s a)
+pub lose-twice : (s : State) → number_in (lost_with s) ≡ 0 → number_in (lost_with (after_loss s)) ≡ 0
+    → after_loss (after_loss s) ≡ joined_state (factors_of fresh_state) fresh_state.service (with_lost (with_lost s.totals))
+lose-twice s a b = rw (lose-accepted (after_loss s) b, lose-accepted s a)
 
 pub service-keeps-factors : (s : State) (six sync : List ℕ) → factors_of (serviced_with s six sync).next ≡ factors_of s
 unfolding serviced_with

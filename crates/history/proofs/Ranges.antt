@@ -28,7 +28,7 @@ use Rattle.tape.specs.Tape.{blocks_of}
 use Rattle.tape.proofs.Positions.{blocks-all}
 use Rattle.running.specs.Running.{has_room, no_running, with_taken}
 use Rattle.running.proofs.Ranges as running
-use Rattle.superframe.specs.State.{factors_of, service_of, state_in_range, lost_with, serviced_by, serviced_with, reset_with}
+use Rattle.superframe.specs.State.{factors_of, state_in_range, lost_with, serviced_by, serviced_with, reset_with, after_loss, after_reset}
 use Rattle.superframe.specs.Take.{take_number, taken_factors, beside_with, refused_with, take_answer}
 use Rattle.superframe.specs.declared.state.State.{State}
 use Rattle.history.specs.Run.{taken}
@@ -38,29 +38,29 @@ use Rattle.superframe.proofs.Refusals as of
 use Rattle.history.proofs.Loss.{lost-in-range}
 use Rattle.history.proofs.Carries.{factor-small}
 
-pub service-fact : (s : State) → state_in_range s ≡ true → InRange (service_of s)
-service-fact s h = in-range-fact (service_of s) (service-in-range s h)
+pub service-fact : (s : State) → state_in_range s ≡ true → InRange s.service
+service-fact s h = in-range-fact s.service (service-in-range s h)
 
-machine-in-range : (s : State) (x : Step) → state_in_range s ≡ true → in_range (stepped (service_of s) x).next ≡ true
+machine-in-range : (s : State) (x : Step) → state_in_range s ≡ true → in_range (stepped s.service x).next ≡ true
 machine-in-range s x h =
-    in-range-true (stepped (service_of s) x).next (progress.step-moved (service_of s) x (service-fact s h)).range
+    in-range-true (stepped s.service x).next (progress.step-moved s.service x (service-fact s h)).range
 
-pub lose-in-range : (s : State) → state_in_range s ≡ true → state_in_range (lost_with s).next ≡ true
+pub lose-in-range : (s : State) → state_in_range s ≡ true → state_in_range (after_loss s) ≡ true
 unfolding lost_with
 lose-in-range s h = either_way (has_room s.totals) (λ r. rw (h, r) (lost-in-range s h r)) (λ r. rw (h, r) h)
 
-pub reset-in-range : (s : State) → state_in_range s ≡ true → state_in_range (reset_with s).next ≡ true
+pub reset-in-range : (s : State) → state_in_range s ≡ true → state_in_range (after_reset s) ≡ true
 unfolding reset_with
-reset-in-range s h = rw h (joined-in-range (factors_of s) (service_of s) no_running (factors-in-range s h) (service-in-range s h) running.none-in-range)
+reset-in-range s h = rw h (joined-in-range (factors_of s) s.service no_running (factors-in-range s h) (service-in-range s h) running.none-in-range)
 
-pub serviced-is : (s : State) (six sync : List ℕ) → state_in_range s ≡ true → serviced_with s six sync ≡ serviced_by s (served (service_of s) six sync)
+pub serviced-is : (s : State) (six sync : List ℕ) → state_in_range s ≡ true → serviced_with s six sync ≡ serviced_by s (served s.service six sync)
 unfolding serviced_with
 serviced-is s six sync h = rw h
 
 pub service-keeps-range : (s : State) (x : Step) → state_in_range s ≡ true → state_in_range (taken s x).next ≡ true
 service-keeps-range s x h =
     rw (serviced-is s x.six x.sync h)
-    (joined-in-range (factors_of s) (stepped (service_of s) x).next s.totals (factors-in-range s h) (machine-in-range s x h) (running-in-range s h))
+    (joined-in-range (factors_of s) (stepped s.service x).next s.totals (factors-in-range s h) (machine-in-range s x h) (running-in-range s h))
 
 -- ---- a superframe
 factors-known : (s : State) (sf : List ℕ) → state_in_range s ≡ true → (all_below 9 s.after ≡ true) × (all_below 9 (programmes_of sf).factors ≡ true)
@@ -81,7 +81,7 @@ answer-in-range radius n s sf h room =
     (λ t.
     let free = room (inl (eqb-true n 0 t)) in
     let counted = running.taken-in-range s.totals (running-in-range s h) free (blocks_of radius sf) (record { all = blocks-all radius sf }) in
-    rw t (joined-in-range (taken_factors s sf) (stepped (service_of s) x).next (with_taken s.totals (blocks_of radius sf)) (both _ _ known.0 known.1) (machine-in-range s x h) counted))
+    rw t (joined-in-range (taken_factors s sf) (stepped s.service x).next (with_taken s.totals (blocks_of radius sf)) (both _ _ known.0 known.1) (machine-in-range s x h) counted))
     (λ t. rw t (either_way (eqb n 3) (λ u. rw u (lost-in-range s h (room (inr (eqb-true n 3 u))))) (λ u. rw u h)))
 
 module _ (s : State) (k : Call s) where

@@ -11,6 +11,10 @@ use Prim.Native.Nat.{ℕ, ◌+◌, ◌-◌, ◌*◌, ◌≤◌}
 use native.Mathlib.Omega.{arith}
 use lib.Dec.{eqb}
 use lib.ListN.{get_or-replicate}
+use Rattle.std.specs.Result.{result_unwrap_or}
+use Rattle.std.specs.declared.result.Result.{Result}
+use Rattle.bits.specs.declared.refusal.Refusal.{Refusal}
+use Rattle.bits.specs.Refused.{number_in}
 use Rattle.bits.specs.Table.{zeros, total}
 use Rattle.bits.proofs.Tests.{either_way}
 use Rattle.tape.specs.Tape.{kind_in, tallied_by, blocks_of}
@@ -21,11 +25,9 @@ use Rattle.running.specs.Document.{Full}
 use Rattle.running.specs.declared.Running.{Running}
 use Rattle.running.proofs.Adds.{added-at}
 use Rattle.running.proofs.Sums.{sum_is, few}
-use Rattle.superframe.specs.State.{state_in_range, lost_with, reset_with}
+use Rattle.superframe.specs.State.{state_in_range, lost_with, reset_with, after_loss, after_reset}
 use Rattle.superframe.specs.Take.{beside_with, refused_with, take_answer}
 use Rattle.superframe.specs.declared.state.State.{State}
-use Rattle.superframe.specs.declared.state.Lost.{Lost}
-use Rattle.superframe.specs.declared.state.Reset.{Reset}
 use Rattle.superframe.specs.declared.state.Serviced.{Serviced}
 use Rattle.superframe.specs.declared.taking.Taken.{Taken}
 use Rattle.superframe.proofs.Parts.{running-in-range}
@@ -38,10 +40,10 @@ use Rattle.history.proofs.Answers.{answer-is}
 -- ---- the states are in range
 made-in-range : (s s' : State) (e : Asked) → Made s e s' → state_in_range s ≡ true → state_in_range s' ≡ true
 made-in-range s s' e (taking k) h = take-in-range s k h
-made-in-range s s' e (losing r m) h = subst (λ (r : Lost). state_in_range r.next ≡ true) (sym m) (lose-in-range s h)
+made-in-range s s' e (losing r m) h = subst (λ (r : Result State Refusal). state_in_range (result_unwrap_or r s) ≡ true) (sym m) (lose-in-range s h)
 made-in-range s s' e (serving six sync r m) h =
     subst (λ (r : Serviced). state_in_range r.next ≡ true) (sym m) (service-keeps-range s (record { six = six; sync = sync }) h)
-made-in-range s s' e (resetting r m) h = subst (λ (r : Reset). state_in_range r.next ≡ true) (sym m) (reset-in-range s h)
+made-in-range s s' e (resetting r m) h = subst (λ (r : Result State Refusal). state_in_range (result_unwrap_or r s) ≡ true) (sym m) (reset-in-range s h)
 
 pub run-in-range : (s : State) (es : List Asked) → Run s es → state_in_range s ≡ true
 run-in-range s es begun = fresh-in-range
@@ -64,11 +66,11 @@ unfolding take_answer beside_with refused_with
 answer-totals radius n s sf =
     either_way (eqb n 0) (λ t. rw t) (λ t. either_way (eqb n 3) (λ u. rw (t, u)) (λ u. rw (t, u)))
 
-lose-totals : (s : State) → (lost_with s).next.totals ≡ cond (eqb (lost_with s).number 0) (with_lost s.totals) s.totals
+lose-totals : (s : State) → (after_loss s).totals ≡ cond (eqb (number_in (lost_with s)) 0) (with_lost s.totals) s.totals
 unfolding lost_with
 lose-totals s = either_way (state_in_range s) (λ t. either_way (has_room s.totals) (λ u. rw (t, u)) (λ u. rw (t, u))) (λ t. rw t)
 
-reset-totals : (s : State) → (reset_with s).next.totals ≡ cond (eqb (reset_with s).number 0) no_running s.totals
+reset-totals : (s : State) → (after_reset s).totals ≡ cond (eqb (number_in (reset_with s)) 0) no_running s.totals
 unfolding reset_with
 reset-totals s = either_way (state_in_range s) (λ t. rw t) (λ t. rw t)
 
@@ -77,10 +79,10 @@ unfolding after
 made-totals s s' e (taking k) =
     ap (λ (r : Taken). r.next.totals) (answer-is s k k.answer.number refl) ∙ answer-totals k.radius k.answer.number s k.bytes
 made-totals s s' e (losing r m) =
-    subst (λ (r : Lost). r.next.totals ≡ after s.totals (lose r.number)) (sym m) (lose-totals s)
+    subst (λ (r : Result State Refusal). (result_unwrap_or r s).totals ≡ after s.totals (lose (number_in r))) (sym m) (lose-totals s)
 made-totals s s' e (serving six sync r m) = ap (λ (r : Serviced). r.next.totals) m ∙ service-counts s six sync
 made-totals s s' e (resetting r m) =
-    subst (λ (r : Reset). r.next.totals ≡ after s.totals (reset r.number)) (sym m) (reset-totals s)
+    subst (λ (r : Result State Refusal). (result_unwrap_or r s).totals ≡ after s.totals (reset (number_in r))) (sym m) (reset-totals s)
 
 -- ---- counted over the calls
 starts : (t : Running) (e : Asked) → is_reset e ≡ true → after t e ≡ no_running

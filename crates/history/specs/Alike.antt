@@ -7,7 +7,7 @@
 --     AnswerBut q r r'          two answers that differ in the number, the factors and the places of programme q, and in their next states
 --     SoundBut q k k'           two calls that leave the same samples and marks, but for the two channels of programme q
 use Rattle.std.specs.Prelude.{ℕ, ◌+◌, ◌-◌, ◌*◌, ◌/◌, ◌<◌, ◌≡◌, ◌≢◌, List, pos, get_or}
-use Rattle.superframe.specs.State.{service_of, fresh_state, state_in_range}
+use Rattle.superframe.specs.State.{fresh_state, state_in_range}
 use Rattle.superframe.specs.declared.state.State.{State}
 use Rattle.superframe.specs.declared.taking.Taken.{Taken}
 use Rattle.history.specs.Calls.{Call}
@@ -18,7 +18,7 @@ pub record OffProgramme (q : ℕ) (l l' : List ℕ) : Type 0 where
 pub record Alike (P R : List ℕ → List ℕ → Type 0) (s s' : State) : Type 0 where
   pub next : P s.next s'.next
   pub after : R s.after s'.after
-  pub service : service_of s ≡ service_of s'
+  pub service : s.service ≡ s'.service
   pub totals : s.totals ≡ s'.totals
   pub range : state_in_range s ≡ state_in_range s'
 

@@ -11,13 +11,15 @@
 --     blocks_by q k      of a superframe that was taken, the blocks that carry programme q and are of kind k at its radius: 0 clean, 1 mended, 2 bad
 --     Counted s es      "each number equals the count over the superframes given so far"
 use Rattle.std.specs.Prelude.{ℕ, ◌≤◌, ◌≡◌, Bool, false, cond, List, [], ◌∷◌, eqb}
+use Rattle.std.specs.Result.{result_unwrap_or}
+use Rattle.std.specs.declared.result.Result.{Result}
+use Rattle.bits.specs.declared.refusal.Refusal.{Refusal}
+use Rattle.bits.specs.Refused.{number_in}
 use Rattle.bits.specs.Table.{total}
 use Rattle.tape.specs.Document.{entry, programme_blocks}
 use Rattle.superframe.specs.State.{fresh_state, lost_with, serviced_with, reset_with}
 use Rattle.superframe.specs.declared.state.State.{State}
-use Rattle.superframe.specs.declared.state.Lost.{Lost}
 use Rattle.superframe.specs.declared.state.Serviced.{Serviced}
-use Rattle.superframe.specs.declared.state.Reset.{Reset}
 use Rattle.history.specs.Calls.{Call}
 
 pub data Asked : Type 0 where
@@ -28,9 +30,9 @@ pub data Asked : Type 0 where
 
 pub data Made (s : State) : Asked → State → Type 0 where
   taking : (k : Call s) → Made s (take k.radius k.bytes k.answer.number) k.answer.next
-  losing : (r : Lost) → r ≡ lost_with s → Made s (lose r.number) r.next
+  losing : (r : Result State Refusal) → r ≡ lost_with s → Made s (lose (number_in r)) (result_unwrap_or r s)
   serving : (six sync : List ℕ) (r : Serviced) → r ≡ serviced_with s six sync → Made s (serve r.number) r.next
-  resetting : (r : Reset) → r ≡ reset_with s → Made s (reset r.number) r.next
+  resetting : (r : Result State Refusal) → r ≡ reset_with s → Made s (reset (number_in r)) (result_unwrap_or r s)
 
 pub data Run : State → List Asked → Type 0 where
   begun : Run fresh_state []

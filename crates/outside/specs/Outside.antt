@@ -1,5 +1,5 @@
 -- A superframe taken over lent bytes alone.
---     state_from b           the state that 88 bytes stand for: two sets of factors, the service searching, and a history that begins
+--     state_from b           the state that 88 bytes stand for: two sets of factors, and else a fresh one: the service searching, a history that begins
 --     packed_at next after blocks k
 --                           byte k of the 88, from the two sets of factors and the counts
 --     packed_of t            the 88 bytes behind a superframe: both sets of factors, and for each of the eight positions the clean, mended and bad blocks
@@ -8,10 +8,10 @@
 --     TookOutside radius b sf samples marks r b' samples' marks'
 --                           THE PROMISE: the number, and what the lent lists then hold; under 1 and 2 all are untouched, under 3 the bytes are those after a loss
 use Rattle.std.specs.Prelude.{◌≡◌, cond, List, ℕ, ◌+◌, ◌-◌, eqb, ltb, ℤ, length, get_or}
-use Rattle.bits.specs.Table.{tabulate, zeros}
-use Rattle.running.specs.Running.{no_running}
+use Rattle.bits.specs.Table.{tabulate}
 use Rattle.sound.specs.Sound.{samples_of, marks_of}
 use Rattle.tape.specs.declared.blocks.Blocks.{Blocks}
+use Rattle.superframe.specs.State.{joined_state, fresh_state}
 use Rattle.superframe.specs.Take.{take_number, take_answer}
 use Rattle.superframe.specs.declared.state.State.{State}
 use Rattle.superframe.specs.declared.taking.Taken.{Taken}
@@ -20,7 +20,7 @@ abbrev pub channels_from : List ℕ → ℕ → List ℕ
 channels_from b n = tabulate 32 (λ k. get_or b (n + k) 0)
 
 unfoldable pub state_from : List ℕ → State
-state_from b = record { next = channels_from b 0; after = channels_from b 32; position = 0; group = zeros 32; stage = 0; labels = zeros 256; totals = no_running }
+state_from b = joined_state (record { next = channels_from b 0; after = channels_from b 32 }) fresh_state.service fresh_state.totals
 
 unfoldable pub packed_at : List ℕ → List ℕ → Blocks → ℕ → ℕ
 packed_at next after blocks k =

@@ -7,7 +7,6 @@ ghost use Rattle.std.specs.Prelude.{◌≡◌, ◌+◌, ◌≤◌, ◌<◌, leng
 ghost use Rattle.bits.specs.Table.{tabulate};
 ghost use Rattle.outside.specs.Outside.{state_from, packed_at, TookOutside};
 
-use running::Running;
 use superframe::State;
 use tape::Blocks;
 
@@ -16,16 +15,11 @@ fn channels(beside: &[u8], from: usize) -> [u8; 32]
     requires { from + 32 ≤ length beside.now }
     ensures { result ≡ tabulate 32 (λ k. get_or beside.now (from + k) 0) }
 {
-    let mut out = [0u8; 32];
-    let mut k: usize = 0;
-    while k < 32 {
-        out[k] = beside[from + k];
-        k += 1;
-    }
-    out
+    std::array::from_fn(|k| beside[from + k])
 }
 
 // With the service searching, and nothing counted: so no history is full.
+#[tactic(auto, unfolding(crate::specs::Outside::state_from))]
 fn state_from(beside: &[u8]) -> State
     requires { length beside.now ≡ 88 }
     ensures { result ≡ state_from beside.now }
@@ -33,22 +27,16 @@ fn state_from(beside: &[u8]) -> State
     State {
         next: channels(beside, 0),
         after: channels(beside, 32),
-        position: 0,
-        group: [0u8; 32],
-        stage: 0,
-        labels: [0u8; 256],
-        totals: Running::none(),
+        ..State::fresh()
     }
 }
 
 // Byte k of the 88.
+#[tactic(auto, unfolding(crate::specs::Outside::packed_at))]
 fn packed_at(next: [u8; 32], after: [u8; 32], blocks: Blocks, k: usize) -> u8
     requires { k < 88 }
     ensures { result ≡ packed_at next after blocks k }
 {
-    let clean = blocks.clean;
-    let mended = blocks.mended;
-    let bad = blocks.bad;
     if k < 32 {
         return next[k];
     }
@@ -56,24 +44,19 @@ fn packed_at(next: [u8; 32], after: [u8; 32], blocks: Blocks, k: usize) -> u8
         return after[k - 32];
     }
     if k < 72 {
-        return clean[k - 64];
+        return blocks.clean[k - 64];
     }
     if k < 80 {
-        return mended[k - 72];
+        return blocks.mended[k - 72];
     }
-    bad[k - 80]
+    blocks.bad[k - 80]
 }
 
-// The 88 bytes behind a superframe, into their own place.
-fn put(beside: &mut [u8], next: [u8; 32], after: [u8; 32], blocks: Blocks)
-    requires { length beside.old ≡ 88 }
-    ensures { beside.new ≡ tabulate 88 (packed_at next after blocks) }
+// The 88 bytes behind a superframe.
+fn packed(next: [u8; 32], after: [u8; 32], blocks: Blocks) -> [u8; 88]
+    ensures { result ≡ tabulate 88 (packed_at next after blocks) }
 {
-    let mut k: usize = 0;
-    while k < 88 {
-        beside[k] = packed_at(next, after, blocks, k);
-        k += 1;
-    }
+    std::array::from_fn(|k| packed_at(next, after, blocks, k))
 }
 
 // Number 0 or 3, and the 88 bytes follow; or 1 or 2, and they stay.
@@ -101,6 +84,6 @@ pub fn outside_take(
     let next = state.next;
     let after = state.after;
     let blocks = taken.blocks;
-    put(beside, next, after, blocks);
+    beside.copy_from_slice(&packed(next, after, blocks));
     number
 }

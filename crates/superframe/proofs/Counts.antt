@@ -12,12 +12,13 @@ use mathlib.Core.List.{List}
 use Prim.Native.Nat.{ℕ}
 use native.Mathlib.Omega.{arith}
 use lib.IntN.{ℤ}
+use Rattle.bits.specs.Refused.{number_in}
 use Rattle.bits.proofs.Tests.{either_way}
 use Rattle.tape.specs.Tape.{blocks_of}
 use Rattle.running.specs.Running.{has_room}
 use Rattle.running.specs.Document.{TakenAdds, LostAdds}
 use Rattle.running.proofs.Adds.{taken-adds, lost-adds}
-use Rattle.superframe.specs.State.{state_in_range, lost_with, serviced_with}
+use Rattle.superframe.specs.State.{state_in_range, lost_with, serviced_with, after_loss}
 use Rattle.superframe.specs.Take.{beside_with, take_answer, Took}
 use Rattle.superframe.specs.declared.state.State.{State}
 use Rattle.superframe.specs.declared.taking.Taken.{Taken}
@@ -36,14 +37,14 @@ module _ (radius : ℕ) (s : State) (sf : List ℕ) (samples : List ℤ) (marks 
   take-adds-nothing z = ap (λ (s : State). s.totals) ((take-refuses radius s sf samples marks r samples' marks' t).given z)
 
 module _ (s : State) where
-  pub lose-counts : (lost_with s).number ≡ 0 → LostAdds s.totals (lost_with s).next.totals
+  pub lose-counts : number_in (lost_with s) ≡ 0 → LostAdds s.totals (after_loss s).totals
   unfolding lost_with
   lose-counts =
       either_way (state_in_range s)
       (λ t. either_way (has_room s.totals) (λ u. rw (t, u) (λ _. lost-adds s.totals)) (λ u. rw (t, u) (λ e. absurd (omega (arith, e)))))
       (λ t. rw t (λ e. absurd (omega (arith, e))))
 
-  pub lose-adds-nothing : (lost_with s).number ≢ 0 → (lost_with s).next.totals ≡ s.totals
+  pub lose-adds-nothing : number_in (lost_with s) ≢ 0 → (after_loss s).totals ≡ s.totals
   lose-adds-nothing h = ap (λ (s : State). s.totals) ((lose-refuses s).given h)
 
   pub service-counts : (six sync : List ℕ) → (serviced_with s six sync).next.totals ≡ s.totals

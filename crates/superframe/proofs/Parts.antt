@@ -7,7 +7,7 @@ use Rattle.service.specs.Service.{in_range}
 use Rattle.service.specs.declared.Service.{Service}
 use Rattle.running.specs.Running.{running_in_range}
 use Rattle.running.specs.declared.Running.{Running}
-use Rattle.superframe.specs.State.{Factors, factors_of, service_of, joined_state, factors_in_range, state_in_range}
+use Rattle.superframe.specs.State.{Factors, factors_of, joined_state, factors_in_range, state_in_range}
 use Rattle.superframe.specs.declared.state.State.{State}
 
 module _ (s : State) (h : state_in_range s ≡ true) where
@@ -15,15 +15,15 @@ module _ (s : State) (h : state_in_range s ≡ true) where
   unfolding state_in_range
   factors-in-range = both_left (factors_in_range (factors_of s)) _ h
 
-  others : cond (in_range (service_of s)) (running_in_range s.totals) false ≡ true
+  others : cond (in_range s.service) (running_in_range s.totals) false ≡ true
   unfolding state_in_range
   others = both_right (factors_in_range (factors_of s)) _ h
 
-  pub service-in-range : in_range (service_of s) ≡ true
-  service-in-range = both_left (in_range (service_of s)) (running_in_range s.totals) others
+  pub service-in-range : in_range s.service ≡ true
+  service-in-range = both_left (in_range s.service) (running_in_range s.totals) others
 
   pub running-in-range : running_in_range s.totals ≡ true
-  running-in-range = both_right (in_range (service_of s)) (running_in_range s.totals) others
+  running-in-range = both_right (in_range s.service) (running_in_range s.totals) others
 
 pub joined-in-range : (f : Factors) (v : Service) (t : Running) → factors_in_range f ≡ true → in_range v ≡ true → running_in_range t ≡ true
     → state_in_range (joined_state f v t) ≡ true

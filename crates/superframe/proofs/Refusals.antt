@@ -20,6 +20,7 @@ use lib.ListN.{length, get_or}
 use Rattle.bits.specs.Table.{every}
 use Rattle.bits.specs.Bits.{all_below}
 use Rattle.bits.specs.Order.{Refused, Accepted}
+use Rattle.bits.specs.Refused.{number_in}
 use Rattle.bits.proofs.Tests.{either_way, both_true, both_left, both_right}
 use Rattle.bits.proofs.Every.{every-missed}
 use Rattle.bits.proofs.Order.{Tells, tested, no-fault, past}
@@ -36,7 +37,7 @@ use Rattle.service_sync.specs.Sync.{kind_of, number_of}
 use Rattle.service_sync.specs.declared.Kind.{Kind}
 use Rattle.service_sync.specs.declared.Kind.TheVariants.{First, Second, Neither}
 use Rattle.service.specs.Service.{in_range, accepts, refused_service, served}
-use Rattle.superframe.specs.State.{service_of, state_in_range, lost_with, serviced_by, serviced_with, reset_with}
+use Rattle.superframe.specs.State.{state_in_range, lost_with, serviced_by, serviced_with, reset_with, after_reset}
 use Rattle.superframe.specs.Take.{takable, take_number, beside_with, refused_with, state_under, take_answer, Took}
 use Rattle.superframe.specs.Document.{WrongLength, bytes, places, marked, OutOfRange, next, after, position, stage, totals, NoBits, no-bit, TakeRefuses, LoseRefuses, ServiceRefuses, ResetRefuses, Resets}
 use Rattle.superframe.specs.declared.state.State.{State}
@@ -84,19 +85,19 @@ none_above b (x ∷ l) zero e h = omega (arith, ltb-true x (suc b) (both_true (l
 none_above b (x ∷ l) (suc c) e h = none_above b l c (both_true (ltb x (suc b)) (every (λ x. ltb x (suc b)) l) e).1 h
 
 module _ (s : State) where
-  service-out : in_range (service_of s) ≡ false → OutOfRange s
+  service-out : in_range s.service ≡ false → OutOfRange s
   unfolding in_range
   service-out e =
-      either_way (leb s.position 8)
-      (λ t. stage (leb-false s.stage 8 (rw t at e)))
-      (λ t. position (leb-false s.position 8 t))
+      either_way (leb s.service.position 8)
+      (λ t. stage (leb-false s.service.stage 8 (rw t at e)))
+      (λ t. position (leb-false s.service.position 8 t))
 
   out : state_in_range s ≡ false → OutOfRange s
   unfolding state_in_range
   out e =
       either_way (all_below 9 s.next)
       (λ t. either_way (all_below 9 s.after)
-      (λ u. either_way (in_range (service_of s))
+      (λ u. either_way (in_range s.service)
       (λ v. totals ((tells-broken s.totals).there (rw (t, u, v) at e)))
       (λ v. service-out v))
       (λ u. let m = some-above 8 s.after u in after m.place m.above))
@@ -107,8 +108,8 @@ module _ (s : State) where
     unfolding in_range
     within (next c h) = none_above 8 s.next c (both_left (all_below 9 s.next) _ (factors-in-range s e)) h
     within (after c h) = none_above 8 s.after c (both_right (all_below 9 s.next) _ (factors-in-range s e)) h
-    within (position h) = omega (arith, leb-true s.position 8 (both_left (leb s.position 8) _ (service-in-range s e)))
-    within (stage h) = omega (arith, leb-true s.stage 8 (both_right (leb s.position 8) _ (service-in-range s e)))
+    within (position h) = omega (arith, leb-true s.service.position 8 (both_left (leb s.service.position 8) _ (service-in-range s e)))
+    within (stage h) = omega (arith, leb-true s.service.stage 8 (both_right (leb s.service.position 8) _ (service-in-range s e)))
     within (totals h) = (tells-broken s.totals).away (running-in-range s e) h
 
   pub tells-state : Tells (OutOfRange s) (state_in_range s)
@@ -186,7 +187,7 @@ module _ (radius : ℕ) (s : State) (sf : List ℕ) (samples : List ℤ) (marks 
 
 -- ---- losing one, six service bytes, and a reset
 -- an answer that goes by tests, and its parts
-lost-number : (s : State) → (lost_with s).number ≡ cond (state_in_range s) (cond (has_room s.totals) 0 9) 2
+lost-number : (s : State) → number_in (lost_with s) ≡ cond (state_in_range s) (cond (has_room s.totals) 0 9) 2
 unfolding lost_with
 lost-number s = either_way (state_in_range s) (λ t. either_way (has_room s.totals) (λ u. rw (t, u)) (λ u. rw (t, u))) (λ t. rw t)
 
@@ -201,7 +202,7 @@ lose-refuses s =
           (λ t. rw t (λ _. refl));
     }
 
-reset-number : (s : State) → (reset_with s).number ≡ cond (state_in_range s) 0 2
+reset-number : (s : State) → number_in (reset_with s) ≡ cond (state_in_range s) 0 2
 unfolding reset_with
 reset-number s = either_way (state_in_range s) (λ t. rw t) (λ t. rw t)
 
@@ -213,7 +214,7 @@ reset-refuses s =
       given = either_way (state_in_range s) (λ t. rw t (λ h. absurd (h refl))) (λ t. rw t (λ _. refl));
     }
 
-pub resets : (s : State) → (reset_with s).number ≡ 0 → Resets s (reset_with s)
+pub resets : (s : State) → number_in (reset_with s) ≡ 0 → Resets s (after_reset s)
 unfolding reset_with no_running
 resets s =
     either_way (state_in_range s)
@@ -226,7 +227,7 @@ sync-number Second e = omega arith
 sync-number Neither e = omega arith
 
 -- the machine's answer to a state in range
-machine : (s : State) (six sync : List ℕ) → state_in_range s ≡ true → ServiceRefuses s sync (serviced_by s (served (service_of s) six sync))
+machine : (s : State) (six sync : List ℕ) → state_in_range s ≡ true → ServiceRefuses s sync (serviced_by s (served s.service six sync))
 unfolding served accepts refused_service
 machine s six sync h =
     either_way (all_below 2 sync)

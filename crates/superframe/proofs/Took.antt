@@ -20,12 +20,12 @@ use Rattle.running.specs.Running.{has_room}
 use Rattle.sound.specs.Sound.{samples_of, marks_of, lengths_fit, fill_number, Filled}
 use Rattle.sound.proofs.Samples.{fits}
 use Rattle.tape.specs.declared.blocks.Counted.{Counted}
-use Rattle.superframe.specs.State.{state_in_range, lost_state, lost_with}
+use Rattle.superframe.specs.State.{state_in_range, lost_state, lost_with, after_loss}
 use Rattle.superframe.specs.Take.{take_number, beside_with, refused_with, state_under, take_answer, Took}
 use Rattle.superframe.specs.declared.state.State.{State}
 use Rattle.superframe.specs.declared.taking.Taken.{Taken}
 
-pub lost-next : (s : State) → state_in_range s ≡ true → has_room s.totals ≡ true → (lost_with s).next ≡ lost_state s
+pub lost-next : (s : State) → state_in_range s ≡ true → has_room s.totals ≡ true → after_loss s ≡ lost_state s
 unfolding lost_with
 lost-next s e r = rw (e, r)
 

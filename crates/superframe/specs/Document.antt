@@ -7,20 +7,21 @@
 --                                       "9, a full history, comes after 2 and before 3; the state and the buffers stay as they were" (P7); "state as before" under 1,
 --                                       "state as given" under 2, "the state after one lost superframe" under 3; "a refusal writes into no lent buffer"
 --     LoseRefuses s r, ServiceRefuses s sync r, ResetRefuses s r      the same of losing one, of six service bytes, and of a reset
---     Resets s r                        "a call that resets starts a new history at that point": nothing is counted, and all else is as given
+--     Resets s t                        "a call that resets starts a new history at that point": nothing is counted, and all else is as given
 --     Serves s sf r                     taking a superframe does with its six bytes and its sync what `take_service` does with them
-use Rattle.std.specs.Prelude.{ℕ, ◌<◌, ◌≡◌, ◌⊎◌, ◌≢◌, List, ℤ, length, get_or}
+use Rattle.std.specs.Prelude.{ℕ, ◌<◌, ◌≡◌, ◌⊎◌, ◌≢◌, List, ℤ, length, get_or, Result}
+use Rattle.std.specs.Result.{result_unwrap_or}
 use Rattle.bits.specs.Order.{Refused, Accepted}
+use Rattle.bits.specs.Refused.{number_in}
+use Rattle.bits.specs.declared.refusal.Refusal.{Refusal}
 use Rattle.bits.specs.Table.{zeros}
 use Rattle.reading.specs.Reading.{OtherRadius}
 use Rattle.tape.specs.Faults.{WrongSync}
 use Rattle.running.specs.Document.{Broken, Full}
 use Rattle.beside.specs.Beside.{six_and_sync}
-use Rattle.superframe.specs.State.{factors_of, service_of, lost_with, serviced_with}
+use Rattle.superframe.specs.State.{factors_of, serviced_with, after_loss}
 use Rattle.superframe.specs.declared.state.State.{State}
-use Rattle.superframe.specs.declared.state.Lost.{Lost}
 use Rattle.superframe.specs.declared.state.Serviced.{Serviced}
-use Rattle.superframe.specs.declared.state.Reset.{Reset}
 use Rattle.superframe.specs.declared.taking.Taken.{Taken}
 
 pub data WrongLength (sf : List ℕ) (samples : List ℤ) (marks : List ℕ) : Type 0 where
@@ -31,8 +32,8 @@ pub data WrongLength (sf : List ℕ) (samples : List ℤ) (marks : List ℕ) : T
 pub data OutOfRange (s : State) : Type 0 where
   next : (c : ℕ) → 8 < get_or s.next c 0 → OutOfRange s
   after : (c : ℕ) → 8 < get_or s.after c 0 → OutOfRange s
-  position : 8 < s.position → OutOfRange s
-  stage : 8 < s.stage → OutOfRange s
+  position : 8 < s.service.position → OutOfRange s
+  stage : 8 < s.service.stage → OutOfRange s
   totals : Broken s.totals → OutOfRange s
 
 pub data NoBits (sync : List ℕ) : Type 0 where
@@ -41,30 +42,31 @@ pub data NoBits (sync : List ℕ) : Type 0 where
 pub record TakeRefuses (radius : ℕ) (s : State) (sf : List ℕ) (samples : List ℤ) (marks : List ℕ) (r : Taken) (samples' : List ℤ) (marks' : List ℕ) : Type 0 where
   pub order : Refused (WrongLength sf samples marks) 1 (Refused (OutOfRange s ⊎ OtherRadius radius) 2 (Refused (Full s.totals) 9 (Refused (WrongSync sf) 3 Accepted))) r.number
   pub given : (r.number ≡ 1) ⊎ ((r.number ≡ 2) ⊎ (r.number ≡ 9)) → r.next ≡ s
-  pub lost : r.number ≡ 3 → r.next ≡ (lost_with s).next
+  pub lost : r.number ≡ 3 → r.next ≡ after_loss s
   pub untouched : r.number ≢ 0 → (samples' ≡ samples) × (marks' ≡ marks)
 
-pub record LoseRefuses (s : State) (r : Lost) : Type 0 where
-  pub order : Refused (OutOfRange s) 2 (Refused (Full s.totals) 9 Accepted) r.number
-  pub given : r.number ≢ 0 → r.next ≡ s
+pub record LoseRefuses (s : State) (r : Result State Refusal) : Type 0 where
+  pub order : Refused (OutOfRange s) 2 (Refused (Full s.totals) 9 Accepted) (number_in r)
+  pub given : number_in r ≢ 0 → result_unwrap_or r s ≡ s
 
 pub record ServiceRefuses (s : State) (sync : List ℕ) (r : Serviced) : Type 0 where
   pub two : OutOfRange s ⊎ NoBits sync → r.number ≡ 2
   pub only : r.number ≡ 2 → OutOfRange s ⊎ NoBits sync
   pub given : r.number ≡ 2 → r.next ≡ s
 
-pub record ResetRefuses (s : State) (r : Reset) : Type 0 where
-  pub order : Refused (OutOfRange s) 2 Accepted r.number
-  pub given : r.number ≢ 0 → r.next ≡ s
+pub record ResetRefuses (s : State) (r : Result State Refusal) : Type 0 where
+  pub order : Refused (OutOfRange s) 2 Accepted (number_in r)
+  pub given : number_in r ≢ 0 → result_unwrap_or r s ≡ s
 
-pub record Resets (s : State) (r : Reset) : Type 0 where
-  pub taken : r.next.totals.taken ≡ 0
-  pub lost : r.next.totals.lost ≡ 0
-  pub clean : r.next.totals.clean ≡ zeros 16
-  pub mended : r.next.totals.mended ≡ zeros 16
-  pub bad : r.next.totals.bad ≡ zeros 16
-  pub factors : factors_of r.next ≡ factors_of s
-  pub service : service_of r.next ≡ service_of s
+-- t is the state behind the reset
+pub record Resets (s t : State) : Type 0 where
+  pub taken : t.totals.taken ≡ 0
+  pub lost : t.totals.lost ≡ 0
+  pub clean : t.totals.clean ≡ zeros 16
+  pub mended : t.totals.mended ≡ zeros 16
+  pub bad : t.totals.bad ≡ zeros 16
+  pub factors : factors_of t ≡ factors_of s
+  pub service : t.service ≡ s.service
 
 pub record Serves (s : State) (sf : List ℕ) (r : Taken) : Type 0 where
   pub six : r.six ≡ (six_and_sync sf).six
@@ -72,4 +74,4 @@ pub record Serves (s : State) (sf : List ℕ) (r : Taken) : Type 0 where
   pub position : r.position ≡ (serviced_with s (six_and_sync sf).six (six_and_sync sf).sync).position
   pub complete : r.complete ≡ (serviced_with s (six_and_sync sf).six (six_and_sync sf).sync).complete
   pub labels : r.labels ≡ (serviced_with s (six_and_sync sf).six (six_and_sync sf).sync).labels
-  pub next : service_of r.next ≡ service_of (serviced_with s (six_and_sync sf).six (six_and_sync sf).sync).next
+  pub next : r.next.service ≡ (serviced_with s (six_and_sync sf).six (six_and_sync sf).sync).next.service

@@ -22,7 +22,7 @@ use Rattle.sound.specs.Sound.{samples_of, marks_of, lengths_fit}
 use Rattle.beside.specs.Beside.{programmes_of, six_and_sync}
 use Rattle.tape.specs.declared.blocks.Blocks.{Blocks}
 use Rattle.beside.specs.declared.Programmes.{Programmes}
-use Rattle.superframe.specs.State.{Factors, joined_state, service_of, state_in_range, lost_state}
+use Rattle.superframe.specs.State.{Factors, joined_state, state_in_range, lost_state}
 use Rattle.superframe.specs.declared.state.State.{State}
 use Rattle.superframe.specs.declared.taking.Taken.{Taken}
 
@@ -37,7 +37,7 @@ abbrev pub taken_factors : State → List ℕ → Factors
 taken_factors s sf = record { next = s.after; after = (programmes_of sf).factors }
 
 abbrev pub served_in : State → List ℕ → Served
-served_in s sf = served (service_of s) (six_and_sync sf).six (six_and_sync sf).sync
+served_in s sf = served s.service (six_and_sync sf).six (six_and_sync sf).sync
 
 unfoldable pub beside_with : State → List ℕ → ℕ → Blocks → Taken
 beside_with s sf w b =

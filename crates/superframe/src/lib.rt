@@ -4,5 +4,5 @@
 mod state;
 mod taking;
 
-pub use state::{Lost, Reset, Serviced, State};
+pub use state::{Serviced, State};
 pub use taking::Taken;

@@ -3,7 +3,6 @@ ghost use Rattle.std.specs.Prelude.{◌≡◌, length};
 ghost use Rattle.running.specs.Running.{step_number};
 ghost use Rattle.superframe.specs.Take.{takable, beside_with, refused_with, Took};
 
-use super::state;
 use super::state::State;
 use beside::Programmes;
 use tape::Blocks;
@@ -75,15 +74,17 @@ fn answered(state: State, bytes: &[u8], wrong: u16, blocks: Blocks) -> Taken
     let sent = beside::six_and_sync(bytes);
     let six = sent.six;
     let sync = sent.sync;
-    let served = service::serve(state::service_of(state), six, sync);
+    let served = service::serve(state.service, six, sync);
+    let labels = served.labels;
+    let counted = state.totals.take(blocks);
     let moved = state.after;
     let read = programmes.factors;
-    let service = served.next;
-    let labels = served.labels;
-    let given = state.totals;
-    let counted = given.take(blocks);
-    let totals = counted.next;
-    let next = state::joined(moved, read, service, totals);
+    let next = State {
+        next: moved,
+        after: read,
+        service: served.next,
+        totals: counted.next,
+    };
     Taken {
         number: 0,
         next,
@@ -116,9 +117,7 @@ impl State {
         let factors = self.next;
         let counted = sound::fill(radius, bytes, &factors, samples, marks);
         if counted.number != 0 {
-            let lost = self.lose();
-            let next = lost.next;
-            return refused(3, next);
+            return refused(3, self.lose().unwrap_or(self));
         }
         let blocks = counted.blocks;
         answered(self, bytes, counted.wrong, blocks)

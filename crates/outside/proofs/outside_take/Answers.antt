@@ -1,4 +1,5 @@
 -- `outside::outside_take` meets its contract: what is promised of `State::take`, over the bytes. Assumes nothing.
+use mathlib.Core.Path.{◌∙◌}
 use Rattle.outside.proofs.Took.{other_length, refused-one, refused-two, taken-by}
 use Rattle.outside.proofs.outside_take.Goals as goal
 
@@ -15,4 +16,4 @@ returns-then-number-eq2 c =
 
 pub returns : goal.returns
 returns c =
-    taken-by _ _ _ _ _ c.if-beside-ne88.false _ c.state_from.ensures _ _ _ c.take-taken.ensures c.if-number-eq1.false c.if-number-eq2.false _ c.put.ensures
+    taken-by _ _ _ _ _ c.if-beside-ne88.false _ c.state_from.ensures _ _ _ c.take-taken.ensures c.if-number-eq1.false c.if-number-eq2.false _ (c.copy_from_slice.ensures.after ∙ c.packed.ensures)

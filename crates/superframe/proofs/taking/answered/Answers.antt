@@ -12,11 +12,9 @@ returns c =
     let long = c.requires.bytes_len in
     let totals = c.args.state.totals in
     rw (
-      c.joined-next.ensures,
       c.take-counted.ensures,
       goes_on totals (with_taken totals c.args.blocks) c.requires.totals_value,
       c.serve-served.ensures,
-      c.service_of.ensures,
       c.six_and_sync-sent.ensures ∙ six-given _ long,
       c.programmes_of-programmes.ensures ∙ programmes-given _ long,
     )

@@ -7,19 +7,10 @@ use Rattle.superframe.specs.State.{missing, state_in_range, lost_with}
 use Rattle.superframe.proofs.Parts.{running-in-range}
 use Rattle.superframe.proofs.state.State.lose.Goals as goal
 
-pub returns-then-not-in_range : goal.returns-then-not-in_range
-unfolding lost_with
-returns-then-not-in_range c = rw (sym c.in_range.ensures ∙ c.if-not-in_range.true)
-
-pub returns-then-not-has_room : goal.returns-then-not-has_room
-unfolding lost_with
-returns-then-not-has_room c =
-    let ranged : state_in_range c.args.self ≡ true = sym c.in_range.ensures ∙ c.if-not-in_range.false in rw (ranged, sym c.has_room.ensures ∙ c.if-not-has_room.true)
-
 pub returns : goal.returns
 unfolding lost_with lost_step missing
 returns c =
     let ranged : state_in_range c.args.self ≡ true = sym c.in_range.ensures ∙ c.if-not-in_range.false in
     let self = c.args.self in
     let free : has_room self.totals ≡ true = sym c.has_room.ensures ∙ c.if-not-has_room.false in
-    rw (c.joined-state.ensures, c.searching.ensures, c.lose-counted.ensures, ranged, free, stepped-free self.totals (with_lost self.totals) (running-in-range self ranged) free)
+    rw (c.fresh.ensures, c.lose-counted.ensures, ranged, free, stepped-free self.totals (with_lost self.totals) (running-in-range self ranged) free)

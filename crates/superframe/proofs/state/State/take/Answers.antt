@@ -10,7 +10,10 @@ use Rattle.running.specs.Running.{has_room}
 use Rattle.running.proofs.More.{no-refusal}
 use Rattle.superframe.specs.State.{state_in_range}
 use Rattle.superframe.specs.Take.{takable, take_number, beside_with, refused_with}
-use Rattle.superframe.specs.declared.state.Lost.{Lost}
+use Rattle.std.specs.Result.{result_unwrap_or}
+use Rattle.std.specs.declared.result.Result.{Result}
+use Rattle.bits.specs.declared.refusal.Refusal.{Refusal}
+use Rattle.superframe.specs.declared.state.State.{State}
 use Rattle.superframe.proofs.Parts.{running-in-range}
 use Rattle.superframe.proofs.Took.{lost-next, good-fill, lost-fill, refused-took, answered-took}
 use Rattle.superframe.proofs.state.State.take.Goals as goal
@@ -50,7 +53,7 @@ returns-then-counted-ne0 c =
     let a = c.args in
     let left = lost-fill a.radius chosen a.bytes.now a.self.next a.samples.now a.marks.now _ _ _ c.fill-counted.ensures fit c.if-counted-ne0.true in
     refused-took a.radius a.self a.bytes.now a.samples.now a.marks.now _ _ _ 3 (rw (fit, good, free, left.0)) refl
-    (c.refused-then-counted-ne0.ensures ∙ ap (λ (l : Lost). refused_with 3 l.next) c.lose-lost.ensures ∙ ap (refused_with 3) (lost-next a.self ranged free))
+    (c.refused-then-counted-ne0.ensures ∙ ap (refused_with 3) (c.unwrap_or.ensures ∙ ap (λ (r : Result State Refusal). result_unwrap_or r a.self) c.lose.ensures) ∙ ap (refused_with 3) (lost-next a.self ranged free))
     left.1 left.2
 
 pub answered-requires : goal.answered-requires
