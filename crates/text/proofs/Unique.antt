@@ -1,5 +1,6 @@
 -- Any two results that meet a promise are the same. Every public function that puts something promises one equation of a page, so one law says it of
--- all, `put-unique`, and of a pen `pen-unique`; of the entry points that stand on them, `entered-unique`; of `within`, `within-unique`.
+-- all, `put-unique`, and of a pen `pen-unique`; of the entry points that stand on them, `entered-unique` and `whole-unique`; of `within`,
+-- `within-unique`.
 -- Assumes nothing.
 use mathlib.Core.Path.{◌≡◌, refl, sym, ap}
 use mathlib.Core.List.{List}
@@ -11,8 +12,8 @@ use Rattle.bits.specs.declared.refusal.Refusal.{Refusal}
 use Rattle.bits.proofs.Refused.{not_zero, number-same}
 use Rattle.bits.proofs.Unique.{same}
 use Rattle.text.specs.Page.{Page, page}
-use Rattle.text.specs.Pens.{Puts}
-use Rattle.text.specs.Entry.{Entered, placed_within, entered}
+use Rattle.text.specs.Pens.{on, Puts}
+use Rattle.text.specs.Entry.{Entered, placed_within, entered, entered_text, PutsWhole}
 use Rattle.text.specs.declared.pen.Pen.{Pen}
 
 pub put-unique : (out out' : List ℕ) (r r' : ℕ) (p : Page) → page out r ≡ p → page out' r' ≡ p → (out ≡ out') × (r ≡ r')
@@ -32,6 +33,13 @@ pub entered-unique :
 entered-unique p p' r r' a e e' =
     let s = same e e' in
     (ap (λ (x : Entered). x.page) s, answered r r' (ap (λ (x : Entered). x.number) s))
+
+pub whole-unique :
+    (old new new' : Pen) (r r' : Result (Unit {0}) Refusal) (s : List ℕ) → PutsWhole old new r s → PutsWhole old new' r' s →
+    (new.out.now ≡ new'.out.now) × (new.to ≡ new'.to) × (r ≡ r')
+whole-unique old new new' r r' s h h' =
+    let e = entered-unique (on new) (on new') r r' (entered_text (on old) s) h.told h'.told in
+    (ap (λ (p : Page). p.bytes) e.0, ap (λ (p : Page). p.place) e.0, e.1)
 
 pub within-unique : (r r' : Result ℕ Refusal) (n end : ℕ) → r ≡ placed_within n end → r' ≡ placed_within n end → r ≡ r'
 within-unique r r' n end = same

@@ -6,13 +6,17 @@
 --     refused_text p      number 1: the page is as it was given
 --     entered_text p s    number 1 where the text is longer than what is left of the buffer from the place on; else 0, with the text at the place, all
 --                         before and behind it as it was, and the place behind it
-use Rattle.std.specs.Prelude.{ℕ, ◌+◌, cond, List, ◌++◌, ltb, length, take, drop}
+--     PutsWhole old new r s    a call that had the pen as `old`, left it as `new` and answered r put the text s whole, or refused it: the pen is on the same
+--                         buffer
+use Rattle.std.specs.Prelude.{◌≡◌, ℕ, ◌+◌, cond, List, ◌++◌, ltb, length, take, drop}
 use Rattle.std.specs.declared.result.Result.{Result}
 use Rattle.std.specs.declared.result.Result.TheVariants.{Ok, Err}
 use Rattle.bits.specs.Refused.{number_in}
 use Rattle.bits.specs.declared.refusal.Refusal.{Refusal}
 use Rattle.bits.specs.declared.refusal.Refusal.TheVariants.{Length}
 use Rattle.text.specs.Page.{Page, page}
+use Rattle.text.specs.Pens.{on}
+use Rattle.text.specs.declared.pen.Pen.{Pen}
 
 unfoldable pub placed_within : ℕ → ℕ → Result ℕ Refusal
 placed_within n end = cond (ltb n end) (Err Length) (Ok end)
@@ -32,3 +36,7 @@ entered_text p s =
     let behind = p.place + length s in
     cond (ltb (length p.bytes) behind) (refused_text p)
     (record { number = 0; page = page ((take p.place p.bytes ++ s) ++ drop behind p.bytes) behind })
+
+pub record PutsWhole (old new : Pen) (r : Result (Unit {0}) Refusal) (s : List ℕ) : Type 0 where
+  pub same_buffer : new.out.ghost_name ≡ old.out.ghost_name
+  pub told : entered r (on new) ≡ entered_text (on old) s

@@ -1,8 +1,8 @@
 // A pen on a lent buffer: the next byte goes to place `to`.
 ghost use Rattle.std.specs.Prelude.{◌≡◌, [], ◌∷◌};
 ghost use Rattle.text.specs.Page.{page};
-ghost use Rattle.text.specs.Pens.{on, Puts};
-ghost use Rattle.text.specs.Entry.{placed_within, entered, entered_text};
+ghost use Rattle.text.specs.Pens.{on, Puts, PutsBy};
+ghost use Rattle.text.specs.Entry.{placed_within, PutsWhole};
 ghost use Rattle.text.specs.Digits.{blank};
 
 use crate::words::Text;
@@ -66,16 +66,16 @@ impl<'a> Pen<'a> {
         self.put_text(text);
     }
 
-    // A whole text, or nothing where there is no room for it: it is put first where there is none, to learn where it ends.
-    pub fn put_whole<T: Text>(&mut self, text: T) -> Result<(), Refusal>
-        ensures same_buffer { self.new.out.ghost_name ≡ self.old.out.ghost_name }
-        ensures told { entered result (on self.new) ≡ entered_text (on self.old) (T.text text) }
+    // A whole text, as a closure puts it, or nothing where there is no room for it: it is put first where there is none, to learn where it ends.
+    pub fn put_whole<F: Fn(&mut Pen<'_>)>(&mut self, put: F) -> Result<(), Refusal>
+        requires { F.IsAlwaysCallable put }
+        ensures { (s : _) → PutsBy (F.post put) s → PutsWhole self.old self.new result s }
     {
         let mut none = [0u8; 1];
         let mut trial = Pen::new(&mut none, self.to);
-        trial.put_text(text);
+        put(&mut trial);
         within(self.out.len(), trial.to)?;
-        self.put_text(text);
+        put(self);
         Ok(())
     }
 }

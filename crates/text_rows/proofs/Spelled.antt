@@ -1,19 +1,19 @@
 -- Laws of lists spelled by a rule.
---     spelled-more        the text of one element more, as a loop puts it
---     spelled-all         the text of all
+--     spells_none, spells_more      the text of no element, and of one more, as a loop puts it
 --     length-row, length-hex      how long they are
 -- Assumes nothing.
 use mathlib.Core.Path.{◌≡◌, refl, sym, ap, ◌∙◌}
 use mathlib.Core.List.{List, [], ◌∷◌, ◌++◌, append_assoc, append-nil}
-use Prim.Native.Nat.{ℕ, ◌+◌, ◌*◌, ◌≤◌, ◌<◌}
+use Prim.Native.Nat.{ℕ, ◌+◌, ◌*◌, ◌<◌}
 use native.Mathlib.Nat.{suc-mul}
 use native.Mathlib.Numerals.{add-one}
 use native.Mathlib.Omega.{arith}
 use lib.ListN.{length, get_or, take, length-append}
-use lib.Seq.{take-suc, take_all}
-use Rattle.text.specs.Page.{Page, put_text}
+use lib.Seq.{take-suc}
+use Rattle.text.specs.Pens.{Puts}
+use Rattle.text.specs.declared.pen.Pen.{Pen}
 use Rattle.text_rows.specs.Rows.{spelled, row, hex_byte, hexadecimal}
-use Rattle.text.proofs.Pages.{put-append}
+use Rattle.text.proofs.Pens.{puts_none, puts_as, puts_then}
 
 module _ (f : ℕ → List ℕ) where
   spelled-append : (l m : List ℕ) → spelled f (l ++ m) ≡ spelled f l ++ spelled f m
@@ -31,18 +31,13 @@ module _ (f : ℕ → List ℕ) where
       ∙ spelled-append (take i l) (get_or l i 0 ∷ [])
       ∙ ap (λ (r : List ℕ). spelled f (take i l) ++ r) (spelled-one (get_or l i 0))
 
-  -- p after i elements, q after one more
-  pub spelled-more :
-      (start p q : Page) (l : List ℕ) (i : ℕ) → i < length l → p ≡ put_text start (spelled f (take i l)) → q ≡ put_text p (f (get_or l i 0)) →
-      q ≡ put_text start (spelled f (take (i + 1) l))
-  spelled-more start p q l i h e g =
-      g
-      ∙ ap (λ (r : Page). put_text r (f (get_or l i 0))) e
-      ∙ sym (put-append start (spelled f (take i l)) (f (get_or l i 0)))
-      ∙ ap (put_text start) (sym (one_more l i h))
+  pub spells_none : (a : Pen) → Puts a a (spelled f [])
+  unfolding spelled
+  spells_none a = puts_none a
 
-  pub spelled-all : (start p : Page) (l : List ℕ) (i : ℕ) → length l ≤ i → p ≡ put_text start (spelled f (take i l)) → p ≡ put_text start (spelled f l)
-  spelled-all start p l i h e = e ∙ ap (λ (r : List ℕ). put_text start (spelled f r)) (take_all i l h)
+  pub spells_more :
+      {a b c : Pen} (l : List ℕ) (i : ℕ) → i < length l → Puts a b (spelled f (take i l)) → Puts b c (f (get_or l i 0)) → Puts a c (spelled f (take (i + 1) l))
+  spells_more l i h p q = puts_as (sym (one_more l i h)) (puts_then p q)
 
   length-spelled : (k : ℕ) → ((x : ℕ) → length (f x) ≡ k) → (l : List ℕ) → length (spelled f l) ≡ length l * k
   unfolding spelled

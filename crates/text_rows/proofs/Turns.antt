@@ -14,7 +14,18 @@ use native.Mathlib.Omega.{arith}
 use lib.ListN.{length, take, drop, length-append, length-take}
 use Rattle.text.specs.Page.{Page, put_text}
 use Rattle.text.proofs.Pages.{put_then}
+use Rattle.text.specs.Pens.{Puts}
+use Rattle.text.specs.declared.pen.Pen.{Pen}
+use Rattle.text.proofs.Pens.{puts_none, puts_then}
 use Rattle.text_rows.specs.Turns.{in_turn, part}
+
+pub turns_none : (a : Pen) (f : ℕ → List ℕ) → Puts a a (in_turn 0 f)
+unfolding in_turn
+turns_none a f = puts_none a
+
+pub turns_more : {a b c : Pen} (f : ℕ → List ℕ) (i : ℕ) → Puts a b (in_turn i f) → Puts b c (f i) → Puts a c (in_turn (i + 1) f)
+unfolding in_turn
+turns_more f i p q = rw (add-one i) (puts_then p q)
 
 -- p after i texts, q after one more
 pub turn_more :

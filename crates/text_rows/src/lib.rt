@@ -1,9 +1,12 @@
-// Lists put into a lent buffer as rows of digits, in the way of `text`: from a place on, and the place behind says whether all of it fitted.
+// Lists put by a pen as rows of digits, and texts that follow one another.
 #![tactic(auto)]
 
-ghost use Rattle.std.specs.Prelude.{◌≡◌};
-ghost use Rattle.text.specs.Page.{page, put_text};
-ghost use Rattle.text_rows.specs.Rows.{row, hex_digit, hex_byte, hexadecimal};
+ghost use Rattle.std.specs.Prelude.{◌≡◌, ◌<◌};
+ghost use Rattle.text.specs.Pens.{Puts};
+ghost use Rattle.text_rows.specs.Rows.{row, hex_digit, hex_byte, hexadecimal, spelled, PutsEach};
+ghost use Rattle.text_rows.specs.Turns.{in_turn, PutsTurns};
+
+use text::Pen;
 
 fn hex_digit(n: u8) -> u8
     ensures { result ≡ hex_digit n }
@@ -12,35 +15,43 @@ fn hex_digit(n: u8) -> u8
     if low < 10 { 48 + low } else { 87 + low }
 }
 
-// A digit for each entry, of one above 9 its last.
-pub fn put_row(out: &mut [u8], to: usize, entries: &[u8]) -> usize
-    ensures { page out.new result ≡ put_text (page out.old to) (row entries.now) }
+fn put_byte(pen: &mut Pen<'_>, byte: u8)
+    ensures { Puts pen.old pen.new (hex_byte byte) }
 {
-    let mut end = to;
-    let mut i: usize = 0;
-    while i < entries.len() {
-        end = text::put(out, end, 48 + entries[i] % 10);
-        i += 1;
-    }
-    end
+    pen.put(hex_digit(byte / 16));
+    pen.put(hex_digit(byte));
 }
 
-fn put_byte(out: &mut [u8], to: usize, byte: u8) -> usize
-    ensures { page out.new result ≡ put_text (page out.old to) (hex_byte byte) }
+// The text of each byte, one behind the other, as a closure puts it.
+pub fn put_spelled<F: Fn(&mut Pen<'_>, u8)>(pen: &mut Pen<'_>, bytes: &[u8], put: F)
+    requires { F.IsAlwaysCallable put }
+    ensures { (f : _) → PutsEach (F.post put) f → Puts pen.old pen.new (spelled f bytes.now) }
 {
-    let half = text::put(out, to, hex_digit(byte / 16));
-    text::put(out, half, hex_digit(byte))
+    for &byte in bytes {
+        put(pen, byte);
+    }
+}
+
+// A digit for each entry, of one above 9 its last.
+pub fn put_row(pen: &mut Pen<'_>, entries: &[u8])
+    ensures { Puts pen.old pen.new (row entries.now) }
+{
+    put_spelled(pen, entries, |pen, entry| pen.put(48 + entry % 10));
 }
 
 // Two hexadecimal digits for each byte, in lower case.
-pub fn put_hex(out: &mut [u8], to: usize, bytes: &[u8]) -> usize
-    ensures { page out.new result ≡ put_text (page out.old to) (hexadecimal bytes.now) }
+pub fn put_hex(pen: &mut Pen<'_>, bytes: &[u8])
+    ensures { Puts pen.old pen.new (hexadecimal bytes.now) }
 {
-    let mut end = to;
-    let mut i: usize = 0;
-    while i < bytes.len() {
-        end = put_byte(out, end, bytes[i]);
-        i += 1;
+    put_spelled(pen, bytes, |pen, byte| put_byte(pen, byte));
+}
+
+// So many texts, one behind the other: each as a closure puts it, which is given its number, from 0.
+pub fn put_turns<F: Fn(&mut Pen<'_>, usize)>(pen: &mut Pen<'_>, n: usize, put: F)
+    requires { (i : _) (p : _) → i < n → F.pre put p i }
+    ensures { (f : _) → PutsTurns (F.post put) n f → Puts pen.old pen.new (in_turn n f) }
+{
+    for i in 0..n {
+        put(pen, i);
     }
-    end
 }

@@ -1,24 +1,7 @@
--- `text_rows::put_hex` meets its contract: after i turns the page holds the text of the first i. Assumes nothing.
-use mathlib.Core.Path.{refl}
-use native.Mathlib.Omega.{arith}
-use Rattle.text.specs.Page.{page, put_text}
-use Rattle.text_rows.specs.Rows.{spelled, hex_byte}
-use Rattle.text_rows.proofs.Spelled.{spelled-more, spelled-all}
+-- `put_hex` meets its contract. Assumes nothing.
 use borrow.Author.Rules.{rules}
+use Rattle.text_rows.specs.Rows.{hex_byte}
 use Rattle.text_rows.proofs.put_hex.Goals as goal
 
-pub loop-i-init : goal.loop-i-init
-unfolding spelled put_text
-loop-i-init c = (search rules, search rules, refl)
-
-pub loop-i-preserved : goal.loop-i-preserved
-loop-i-preserved c =
-    let l = c.loop-i in
-    let start = c.args in
-    (search rules, search rules, spelled-more hex_byte (page start.out.now start.to) (page l.out l.end) _ start.bytes.now l.i (omega arith) l.invariant.2 c.put_byte-end.ensures)
-
 pub returns : goal.returns
-returns c =
-    let l = c.loop-i in
-    let start = c.args in
-    spelled-all hex_byte (page start.out.now start.to) (page l.out l.end) start.bytes.now l.i (omega arith) l.invariant.2
+returns c = c.put_spelled.ensures hex_byte (λ x p q k. search rules)
