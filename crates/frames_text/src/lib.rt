@@ -1,59 +1,50 @@
-// The text of a superframe's sound in a transcript (docs/TRANSCRIPT.md): two lines for each frame, put into a lent buffer.
+// The text of a superframe's sound in a transcript (docs/TRANSCRIPT.md), put by a pen: two lines for each frame.
 #![tactic(auto)]
 
-ghost use Rattle.std.specs.Prelude.{◌≡◌, length};
-ghost use Rattle.text.specs.Page.{page, put_text};
-ghost use Rattle.frames_text.specs.Frames.{marks_line, samples_line, frames_text, frames_put};
+ghost use Rattle.std.specs.Prelude.{◌≡◌, ◌<◌, length};
+ghost use Rattle.text.specs.Pens.{on, Puts};
+ghost use Rattle.frames_text.specs.Frames.{marks_line, samples_line, frame_text, frames_text, frames_put};
 
-fn put_marks(out: &mut [u8], to: usize, f: usize, marks: &[u8]) -> usize
-    ensures { page out.new result ≡ put_text (page out.old to) (marks_line f marks.now) }
+use text::Pen;
+
+#[tactic(auto, using(text::proofs::Pens::puts_then), unfolding(crate::specs::Frames::marks_line, bits::specs::Letters::letters))]
+fn put_marks(pen: &mut Pen<'_>, f: usize, marks: &[u8])
+    ensures { Puts pen.old pen.new (marks_line f marks.now) }
 {
-    let word = text::put_all(out, to, b"marks");
-    let number = text::put_next(out, word, f as u64);
-    let blank = text::put(out, number, b' ');
-    let end = text_rows::put_row(out, blank, marks);
-    text::put(out, end, b'\n')
+    pen.put_all(b"marks");
+    pen.put_next(f as u64);
+    pen.put(b' ');
+    text_rows::put_row(pen, marks);
+    pen.put(b'\n');
 }
 
-fn put_samples(out: &mut [u8], to: usize, f: usize, samples: &[i16]) -> usize
-    ensures { page out.new result ≡ put_text (page out.old to) (samples_line f samples.now) }
+fn put_samples(pen: &mut Pen<'_>, f: usize, samples: &[i16])
+    ensures { Puts pen.old pen.new (samples_line f samples.now) }
 {
-    let word = text::put_all(out, to, b"samples");
-    let mut end = text::put_next(out, word, f as u64);
-    let mut c: usize = 0;
-    while c < samples.len() {
-        end = text::put_next_signed(out, end, samples[c]);
-        c += 1;
-    }
-    text::put(out, end, b'\n')
+    pen.put_all(b"samples");
+    pen.put_next(f as u64);
+    text_rows::put_turns(pen, samples.len(), |pen, c| pen.put_next(samples[c]));
+    pen.put(b'\n');
 }
 
-fn put_each_frame(out: &mut [u8], to: usize, samples: &[i16], marks: &[u8]) -> usize
-    requires { (length samples.now ≡ 2048) × (length marks.now ≡ 2048) }
-    ensures { page out.new result ≡ put_text (page out.old to) (frames_text samples.now marks.now) }
+fn put_frame(pen: &mut Pen<'_>, n: usize, samples: &[i16], marks: &[u8])
+    requires { (length samples.now ≡ 2048) × (length marks.now ≡ 2048) × (n < 64) }
+    ensures { Puts pen.old pen.new (frame_text samples.now marks.now n) }
 {
-    let mut end = to;
-    let mut n: usize = 0;
-    while n < 64 {
-        let a = 32 * n;
-        let e = a + 32;
-        n += 1;
-        let marked = put_marks(out, end, n, &marks[a..e]);
-        end = put_samples(out, marked, n, &samples[a..e]);
-    }
-    end
+    let a = 32 * n;
+    let e = a + 32;
+    put_marks(pen, n + 1, &marks[a..e]);
+    put_samples(pen, n + 1, &samples[a..e]);
 }
 
-// From a place on; the place behind the lines is answered, in the way of `text`. Of other lengths than 2,048 no line is put, and the place answered
-// is past the end of every buffer, as for a text that does not fit.
-pub fn put_frames(out: &mut [u8], to: usize, samples: &[i16], marks: &[u8]) -> usize
-    ensures { page out.new result ≡ frames_put (page out.old to) samples.now marks.now }
+// Of other lengths than 2,048 no line is put, and the pen's place is then past the end of every buffer, as for a text that does not fit.
+pub fn put_frames(pen: &mut Pen<'_>, samples: &[i16], marks: &[u8])
+    ensures same_buffer { pen.new.out.ghost_name ≡ pen.old.out.ghost_name }
+    ensures told { on pen.new ≡ frames_put (on pen.old) samples.now marks.now }
 {
-    if samples.len() != 2048 {
-        return usize::MAX;
+    if samples.len() != 2048 || marks.len() != 2048 {
+        pen.to = usize::MAX;
+        return;
     }
-    if marks.len() != 2048 {
-        return usize::MAX;
-    }
-    put_each_frame(out, to, samples, marks)
+    text_rows::put_turns(pen, 64, |pen, n| put_frame(pen, n, samples, marks));
 }

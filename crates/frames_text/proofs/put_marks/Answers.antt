@@ -1,14 +1,10 @@
--- `frames_text::put_marks` meets its contract. Assumes nothing.
+-- `put_marks` meets its contract. Assumes nothing.
+use mathlib.Core.List.{[], ◌∷◌}
 use Rattle.bits.specs.Letters.{letters}
-use Rattle.text.proofs.Pages.{put_then}
+use Rattle.text.proofs.Pens.{puts_then}
 use Rattle.frames_text.specs.Frames.{marks_line}
 use Rattle.frames_text.proofs.put_marks.Goals as goal
 
 pub returns : goal.returns
 unfolding marks_line letters
-returns c =
-    put_then _ _ _ _ _ c.put_all-word.ensures
-    (put_then _ _ _ _ _ c.put_next-number.ensures
-    (put_then _ _ _ _ _ c.put-blank.ensures
-    (put_then _ _ _ _ _ c.put_row-end.ensures
-    c.put.ensures)))
+returns c = puts_then c.put_all.ensures (puts_then c.put_next.ensures (puts_then {s = _ ∷ []} c.put.ensures (puts_then c.put_row.ensures c.put-2.ensures)))
