@@ -1,35 +1,31 @@
 -- Laws of the syncs.
---     agree-more, agree-stop, agree-end     a loop over two lists: the next entries are equal, are not, or there are none
+--     agreed            Rust's equality of two lists
 --     agree_refl, agree-eq, disagree        a list agrees with itself, and with no other
 --     first_kind, second-kind, neither-kind     the two syncs, and any other
 --     open-below, open_above, open-true, open-false     an open group is behind positions 1 to 7, and none behind 0 and 8
 -- Assumes nothing.
 use mathlib.Core.Path.{◌≡◌, refl, ap₂}
 use mathlib.Core.Logic.{◌⊎◌, ⊎_elim}
-use mathlib.Core.Bool.{Bool, true, false}
+use mathlib.Core.Bool.{Bool, true, false, cond, ◌&&◌}
 use mathlib.Core.List.{List, [], ◌∷◌}
-use Prim.Native.Nat.{ℕ, ◌+◌, ◌<◌, ◌≤◌}
-use native.Mathlib.Numerals.{add-one}
+use Prim.Native.Nat.{ℕ, ◌<◌}
 use lib.Dec.{eqb, ltb}
-use lib.ListN.{length, drop, get_or, drop_of_length-le}
-use lib.Seq.{drop-cons}
-use borrow.Author.Tests.{ltb-true, lt-ltb, eqb-true, eq-eqb, ne_eqb}
+use lib.Pointwise.{pointwise}
+use borrow.Author.Tests.{ltb-true, lt-ltb, eqb-true, eq-eqb}
 use Rattle.service_sync.specs.Sync.{sync1, sync2, agree, kind_of, is_open}
 use Rattle.service_sync.specs.declared.Kind.TheVariants.{First, Second, Neither}
 use Rattle.bits.proofs.Tests.{both, both_left, both_right}
 
-module _ (a b : List ℕ) (i : ℕ) where
-  pub agree-more : i < length a → i < length b → get_or a i 0 ≡ get_or b i 0 → agree (drop i a) (drop i b) ≡ agree (drop (i + 1) a) (drop (i + 1) b)
-  unfolding agree
-  agree-more h k e = rw (add-one, drop-cons a i 0 h, drop-cons b i 0 k, eq-eqb (get_or a i 0) (get_or b i 0) e)
+by-cond : (x y : Bool) → (x && y) ≡ cond x y false
+by-cond true y = refl
+by-cond false y = refl
 
-  pub agree-stop : i < length a → i < length b → (get_or a i 0 ≡ get_or b i 0 → ⊥) → false ≡ agree (drop i a) (drop i b)
-  unfolding agree
-  agree-stop h k e = rw (drop-cons a i 0 h, drop-cons b i 0 k, ne_eqb (get_or a i 0) (get_or b i 0) e)
-
-  pub agree-end : length a ≤ i → length b ≤ i → true ≡ agree (drop i a) (drop i b)
-  unfolding agree
-  agree-end h k = rw (drop_of_length-le a h, drop_of_length-le b k)
+pub agreed : (a b : List ℕ) → pointwise eqb a b ≡ agree a b
+unfolding agree
+agreed [] [] = refl
+agreed [] (y ∷ b) = refl
+agreed (x ∷ a) [] = refl
+agreed (x ∷ a) (y ∷ b) = rw (agreed a b) (by-cond (eqb x y) (agree a b))
 
 pub agree_refl : (a : List ℕ) → agree a a ≡ true
 unfolding agree

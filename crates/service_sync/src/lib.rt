@@ -3,10 +3,10 @@
 #![tactic(auto)]
 
 ghost use Rattle.std.specs.Prelude.{◌≡◌};
-ghost use Rattle.service_sync.specs.Sync.{agree, kind_of, is_open, next_position, drops_with, number_of};
+ghost use Rattle.service_sync.specs.Sync.{kind_of, is_open, next_position, drops_with, number_of};
 
 // Which of the two syncs the 16 bits are.
-#[derive(Clone, Copy)]
+#[derive(Clone, Copy, PartialEq, Eq, Debug)]
 pub enum Kind {
     First,
     Second,
@@ -18,24 +18,13 @@ const SYNC_1: [u8; 16] = [0, 0, 0, 0, 0, 1, 0, 1, 1, 1, 0, 0, 1, 1, 1, 1];
 
 const SYNC_2: [u8; 16] = [0, 0, 0, 0, 0, 1, 0, 1, 1, 1, 1, 1, 1, 1, 1, 1];
 
-fn equal(a: [u8; 16], b: [u8; 16]) -> bool
-    ensures { result ≡ agree a b }
-{
-    for i in 0..16usize {
-        if a[i] != b[i] {
-            return false;
-        }
-    }
-    true
-}
-
 pub fn kind_of(sync: [u8; 16]) -> Kind
     ensures { result ≡ kind_of sync }
 {
-    if equal(sync, SYNC_1) {
+    if sync == SYNC_1 {
         return Kind::First;
     }
-    if equal(sync, SYNC_2) {
+    if sync == SYNC_2 {
         return Kind::Second;
     }
     Kind::Neither
@@ -45,10 +34,7 @@ pub fn kind_of(sync: [u8; 16]) -> Kind
 fn is_open(position: u8) -> bool
     ensures { result ≡ is_open position }
 {
-    if 0 < position {
-        return position < 8;
-    }
-    false
+    0 < position && position < 8
 }
 
 pub fn next_position(kind: Kind, position: u8) -> u8
@@ -75,8 +61,7 @@ pub fn number_of(kind: Kind) -> u8
     ensures { result ≡ number_of kind }
 {
     match kind {
-        Kind::First => 0,
-        Kind::Second => 0,
+        Kind::First | Kind::Second => 0,
         Kind::Neither => 7,
     }
 }
