@@ -18,6 +18,7 @@ use borrow.Author.Tests.{ltb-true}
 use Rattle.bits.specs.Digits.{Below}
 use Rattle.service_group.specs.Six.{group_after, labels_after, stage_after}
 use Rattle.service_sync.specs.Sync.{kind_of, is_open, next_position, drops_with}
+use Rattle.std.specs.Result.{IsOkAnd}
 use Rattle.service.specs.Taking.{take_six, take_sync}
 use Rattle.service.specs.Service.{searching_service, served}
 use Rattle.service.specs.declared.Service.{Service}
@@ -52,7 +53,7 @@ labels-clean false p t l g i r u = by-test (ltb 0 (stage_after p t g)) refl wher
   by-test true e = filled-clean p t l g i r (ltb-true 0 (stage_after p t g) e) u
   by-test false e = zeros-get_or 256 i r
 
-pub next-clean : (s : Service) (six sync : List ℕ) → InRange s → Below 2 sync → Clean (served s six sync).next
+pub next-clean : (s : Service) (six sync : List ℕ) → InRange s → Below 2 sync → IsOkAnd (served s six sync) (λ r. Clean r.next)
 unfolding take_sync take_six
 next-clean s six sync h b =
     let p : ℕ = s.position in

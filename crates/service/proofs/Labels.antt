@@ -24,19 +24,21 @@ use Rattle.service_group.specs.Six.{separates}
 use Rattle.service_sync.specs.Sync.{sync1, sync2, is_open}
 use Rattle.service.specs.Taking.{take_six, take_sync}
 use Rattle.service.specs.Service.{served}
-use Rattle.service.specs.Run.{Step, stepped, after}
+use Rattle.service.specs.Run.{Step, stepped, next_of, after}
+use Rattle.std.specs.declared.option.Option.TheVariants.{Some}
+use Rattle.std.specs.Result.{IsOkAnd}
 use Rattle.service.specs.Broadcast.{sync_behind, step_of, broadcast, channel_of, Separated, labels_of}
 use Rattle.service.specs.declared.Service.{Service}
 use Rattle.service_sync.specs.declared.Kind.TheVariants.{First, Second}
 use Rattle.service_group.proofs.Groups.{channel-kept, channel-comes, zeros-separate, label_kept, label-comes, length-labels, separator-starts, stage-grows, stage-waits}
 use Rattle.service_sync.proofs.Syncs.{open-true, open-false}
-use Rattle.service.proofs.Machine.{InRange, served-first, served-second, eighth-ends}
+use Rattle.service.proofs.Machine.{InRange, served-is, served-first, served-second, eighth-ends}
 use Rattle.service.proofs.Progress.{NoLabels, soon-none}
 
-pub after-snoc : (xs : List Step) (x : Step) (s : Service) → after s (xs ++ (x ∷ [])) ≡ (stepped (after s xs) x).next
+pub after-snoc : (xs : List Step) (x : Step) (s : Service) → after s (xs ++ (x ∷ [])) ≡ next_of (after s xs) (stepped (after s xs) x)
 unfolding after
 after-snoc [] x s = refl
-after-snoc (y ∷ xs) x s = after-snoc xs x (stepped s y).next
+after-snoc (y ∷ xs) x s = after-snoc xs x (next_of s (stepped s y))
 
 pub record Along (sixes : ℕ → List ℕ) (k : ℕ) (t : Service) : Type 0 where
   pub position : t.position ≡ k % 8 + 1
@@ -87,7 +89,7 @@ module _ (sixes : ℕ → List ℕ) (k : ℕ) (t : Service) (a : Along sixes k t
   labels_next x e came i l u = rw (lt-ltb 0 x (omega arith)) (labels-with sixes k t a i l (came i u))
 
   -- ---- a superframe inside a group
-  inside-next : k % 8 < 7 → (stepped t (step_of sixes k)).next ≡ take_sync Second (take_six t (sixes k))
+  inside-next : k % 8 < 7 → next_of t (stepped t (step_of sixes k)) ≡ take_sync Second (take_six t (sixes k))
   inside-next m =
       let behind : sync_behind k ≡ sync2 = rw (ne_eqb (k % 8) 7 (λ e. omega arith)) in
       rw (behind, served-second t (sixes k) (along-range sixes k t a (omega arith)))
@@ -109,7 +111,7 @@ module _ (sixes : ℕ → List ℕ) (k : ℕ) (t : Service) (a : Along sixes k t
       }
 
   -- ---- a superframe that completes a group
-  ending-next : k % 8 ≡ 7 → (stepped t (step_of sixes k)).next ≡ take_sync First (take_six t (sixes k))
+  ending-next : k % 8 ≡ 7 → next_of t (stepped t (step_of sixes k)) ≡ take_sync First (take_six t (sixes k))
   ending-next m =
       let behind : sync_behind k ≡ sync1 = rw (eq-eqb (k % 8) 7 m) in
       rw (behind, served-first t (sixes k) (along-range sixes k t a (omega arith)))
@@ -148,7 +150,7 @@ module _ (sixes : ℕ → List ℕ) (k : ℕ) (t : Service) (a : Along sixes k t
         labels = labels_next _ moved (λ i u. before-or-at (i % 8 + 1) (k / 8) (omega arith) m);
       }
 
-  pub along-next : Separated sixes → Along sixes (suc k) (stepped t (step_of sixes k)).next
+  pub along-next : Separated sixes → Along sixes (suc k) (next_of t (stepped t (step_of sixes k)))
   along-next none =
       ⊎_elim (λ (m : k % 8 ≡ 7). rw (ending-next m) (ending none m)) (λ (m : k % 8 < 7). rw (inside-next m) (inside m)) (eq-or-lt_of_le (omega arith))
 
@@ -179,11 +181,10 @@ module _ (sixes : ℕ → List ℕ) (s : Service) (h : InRange s) (p : s.positio
   labels-not-before k l = soon-none s h (omega arith) (broadcast sixes k) (rw (length-tab k (step_of sixes)) (omega arith)) (step_of sixes k)
 
   pub labels-come : (sync : List ℕ) → Below 2 sync
-      → ((served (after s (broadcast sixes 71)) (sixes 71) sync).complete ≡ true)
-      × ((served (after s (broadcast sixes 71)) (sixes 71) sync).labels ≡ labels_of sixes)
-      × ((served (after s (broadcast sixes 71)) (sixes 71) sync).next.stage ≡ 0)
+      → IsOkAnd (served (after s (broadcast sixes 71)) (sixes 71) sync) (λ r. (r.labels ≡ Some (labels_of sixes)) × (r.next.stage ≡ 0))
   labels-come sync b =
       let end : Service = after s (broadcast sixes 71) in
       let a : Along sixes 71 end = along 71 (omega arith) in
+      let is = served-is end (sixes 71) (along-range sixes 71 end a (omega arith)) sync b in
       let r = eighth-ends end (sixes 71) (along-range sixes 71 end a (omega arith)) sync b a.position a.stage in
-      (r.0, r.1 ∙ spelt sixes end a, r.2)
+      rw is (let q = rw is at r in (q.0 ∙ ap Some (spelt sixes end a), q.1))

@@ -22,7 +22,10 @@ use borrow.Author.Tests.{leb-true, le-leb, lt-ltb}
 use Rattle.bits.specs.Digits.{Below}
 use Rattle.bits.specs.Bits.{all_below}
 use Rattle.service_group.specs.Six.{group_after, separates}
-use Rattle.service_sync.specs.Sync.{sync1, sync2, kind_of, drops_with}
+use Rattle.std.specs.declared.option.Option.TheVariants.{Some}
+use Rattle.std.specs.declared.result.Result.TheVariants.{Ok}
+use Rattle.std.specs.Result.{IsOkAnd}
+use Rattle.service_sync.specs.Sync.{sync1, sync2, kind_of, drops_with, number_of}
 use Rattle.service.specs.Taking.{take_six, take_sync}
 use Rattle.service.specs.Service.{in_range, accepts, step_by, served, searching_service}
 use Rattle.service.specs.declared.Service.{Service}
@@ -57,65 +60,67 @@ none_left false = refl
 
 -- ---- an accepted step
 module _ (s : Service) (six : List ℕ) (h : InRange s) where
-  pub served-is : (sync : List ℕ) → Below 2 sync → served s six sync ≡ step_by s six (kind_of sync)
+  pub served-is : (sync : List ℕ) → Below 2 sync → served s six sync ≡ Ok (step_by s six (kind_of sync))
   unfolding served accepts
   served-is sync b = rw (in-range-true s h, below_all 2 sync b)
 
-  pub position-kept : (sync : List ℕ) → Below 2 sync → (served s six sync).position ≡ s.position
-  position-kept sync b = rw (served-is sync b)
+  pub position-kept : (sync : List ℕ) → Below 2 sync → IsOkAnd (served s six sync) (λ r. r.position ≡ s.position)
+  position-kept sync b = rw (served-is sync b) refl
 
-  pub served-first : served s six sync1 ≡ step_by s six First
+  pub served-first : served s six sync1 ≡ Ok (step_by s six First)
   unfolding all_below Below
   served-first = served-is sync1 (search arith) ∙ rw first_kind
 
-  pub served-second : served s six sync2 ≡ step_by s six Second
+  pub served-second : served s six sync2 ≡ Ok (step_by s six Second)
   unfolding all_below Below
   served-second = served-is sync2 (search arith) ∙ rw second-kind
 
-  pub first-opens : (served s six sync1).next.position ≡ 1
+  pub first-opens : IsOkAnd (served s six sync1) (λ r. r.next.position ≡ 1)
   unfolding take_sync
-  first-opens = rw served-first
+  first-opens = rw served-first refl
 
-  pub first-drops : 0 < s.position → s.position < 8 → (served s six sync1).next ≡ opened
+  pub first-drops : 0 < s.position → s.position < 8 → IsOkAnd (served s six sync1) (λ r. r.next ≡ opened)
   unfolding take_sync take_six
-  first-drops l u = rw (served-first, open-true s.position l u)
+  first-drops l u = rw served-first (rw (open-true s.position l u))
 
   pub second-continues : 0 < s.position → s.position < 8
-      → (served s six sync2).next
+      → IsOkAnd (served s six sync2)
+      (λ r.
+      r.next
       ≡ record {
         position = s.position + 1;
         group = group_after s.position s.group six;
         stage = (take_six s six).stage;
         labels = (take_sync Second (take_six s six)).labels;
-      }
+      })
   unfolding take_sync take_six
-  second-continues l u = rw (served-second, open-true s.position l u, lt-ltb 1 (s.position + 1) (omega arith))
+  second-continues l u = rw served-second (rw (open-true s.position l u, lt-ltb 1 (s.position + 1) (omega arith)))
 
-  pub second-dropped : (s.position ≡ 0) ⊎ (s.position ≡ 8) → (served s six sync2).next ≡ searching_service
+  pub second-dropped : (s.position ≡ 0) ⊎ (s.position ≡ 8) → IsOkAnd (served s six sync2) (λ r. r.next ≡ searching_service)
   unfolding take_sync take_six searching_service
-  second-dropped e = rw (served-second, open-false s.position e)
+  second-dropped e = rw served-second (rw (open-false s.position e))
 
   pub neither-searches : (sync : List ℕ) → Below 2 sync → (sync ≡ sync1 → ⊥) → (sync ≡ sync2 → ⊥)
-      → ((served s six sync).number ≡ 7) × ((served s six sync).next ≡ searching_service)
+      → IsOkAnd (served s six sync) (λ r. (number_of r.kind ≡ 7) × (r.next ≡ searching_service))
   unfolding take_sync take_six searching_service
-  neither-searches sync b f g = let n = neither-kind sync f g in (rw (served-is sync b, n), rw (served-is sync b, n))
+  neither-searches sync b f g = rw (served-is sync b, neither-kind sync f g) (refl, refl)
 
   -- ---- position 8 completes a group
-  pub separator-found : s.position ≡ 8 → s.stage ≡ 0 → separates (take_six s six).group ≡ true → (served s six sync1).next.stage ≡ 1
+  pub separator-found : s.position ≡ 8 → s.stage ≡ 0 → separates (take_six s six).group ≡ true → IsOkAnd (served s six sync1) (λ r. r.next.stage ≡ 1)
   unfolding take_sync take_six
-  separator-found p t z = rw (served-first, separator-starts _ _ _ p t z, p, open-false 8 (inr refl))
+  separator-found p t z = rw served-first (rw (separator-starts _ _ _ p t z, p, open-false 8 (inr refl)))
 
-  pub no-separator : s.position ≡ 8 → s.stage ≡ 0 → separates (take_six s six).group ≡ false → (served s six sync1).next.stage ≡ 0
+  pub no-separator : s.position ≡ 8 → s.stage ≡ 0 → separates (take_six s six).group ≡ false → IsOkAnd (served s six sync1) (λ r. r.next.stage ≡ 0)
   unfolding take_sync take_six
-  no-separator p t z = rw (served-first, none-starts _ _ _ p t z, p, open-false 8 (inr refl))
+  no-separator p t z = rw served-first (rw (none-starts _ _ _ p t z, p, open-false 8 (inr refl)))
 
-  pub group-brings : s.position ≡ 8 → 0 < s.stage → s.stage < 8 → (served s six sync1).next.stage ≡ s.stage + 1
+  pub group-brings : s.position ≡ 8 → 0 < s.stage → s.stage < 8 → IsOkAnd (served s six sync1) (λ r. r.next.stage ≡ s.stage + 1)
   unfolding take_sync take_six
-  group-brings p l u = rw (served-first, stage-grows _ _ (group_after s.position s.group six) p l u, p, open-false 8 (inr refl))
+  group-brings p l u = rw served-first (rw (stage-grows _ _ (group_after s.position s.group six) p l u, p, open-false 8 (inr refl)))
 
   pub eighth-ends : (sync : List ℕ) → Below 2 sync → s.position ≡ 8 → s.stage ≡ 8
-      → ((served s six sync).complete ≡ true) × ((served s six sync).labels ≡ (take_six s six).labels) × ((served s six sync).next.stage ≡ 0)
+      → IsOkAnd (served s six sync) (λ r. (r.labels ≡ Some (take_six s six).labels) × (r.next.stage ≡ 0))
   unfolding take_sync take_six
   eighth-ends sync b p t =
       let ends = stage-ends _ _ (group_after s.position s.group six) p t in
-      (rw (served-is sync b, p, t, eighth-ready), rw (served-is sync b, p, t, eighth-ready), rw (served-is sync b, ends, p) (none_left (drops_with (kind_of sync) 8)))
+      rw (served-is sync b) (rw (p, t, eighth-ready), rw (ends, p) (none_left (drops_with (kind_of sync) 8)))

@@ -3,7 +3,7 @@
 --     Moved n s s'        s' is in range and at most n further than s
 --     step-moved          a step moves by at most one, whatever it brings
 --     run_moved           a run of steps by at most their number
---     NoLabels r          an answer that hands out no labels
+--     labels_in r, NoLabels r     the labels that an answer hands out; an answer that hands out none
 --     far_none            labels are not handed out where the progress is less than 72
 --     soon-none           behind a start without progress 71 steps hand out none
 --     drop-resets, drop-none     a dropped group, a dropped Sync 2 or a 7 leaves no progress: the 71 steps behind it hand out none
@@ -14,14 +14,19 @@ use mathlib.Core.List.{List, [], ◌∷◌}
 use Prim.Native.Nat.{ℕ, ◌+◌, ◌*◌, ◌<◌, ◌≤◌}
 use native.Mathlib.Omega.{arith}
 use lib.ListN.{length}
-use Rattle.bits.specs.Table.{zeros}
+use Rattle.std.specs.declared.option.Option.{Option}
+use Rattle.std.specs.declared.option.Option.TheVariants.{None}
+use Rattle.std.specs.declared.result.Result.{Result}
+use Rattle.std.specs.declared.result.Result.TheVariants.{Ok, Err}
+use Rattle.bits.specs.declared.refusal.Refusal.{Refusal}
+use Rattle.bits.specs.declared.refusal.Refusal.TheVariants.{Range}
 use borrow.Author.Tests.{not-true}
 use Rattle.bits.specs.Digits.{Below}
 use Rattle.service_group.specs.Six.{stage_after, group_after, is_ready}
 use Rattle.service_sync.specs.Sync.{kind_of, is_open, next_position, drops_with}
 use Rattle.service.specs.Taking.{take_six, stage_with, take_sync}
-use Rattle.service.specs.Service.{accepts, refused_service, step_by, served}
-use Rattle.service.specs.Run.{Step, stepped, after}
+use Rattle.service.specs.Service.{accepts, step_by, served}
+use Rattle.service.specs.Run.{Step, stepped, next_of, after}
 use Rattle.service.specs.declared.Service.{Service}
 use Rattle.service.specs.declared.Served.{Served}
 use Rattle.service_sync.specs.declared.Kind.{Kind}
@@ -58,15 +63,14 @@ accepted-moved s six k h =
     record { range = record { position = m.0; stage = m.1 }; further = m.2 }
 
 -- a step is accepted or refused
-answer-either : (P : Served → Type 0) (s : Service) (six sync : List ℕ)
-    → P (step_by s six (kind_of sync)) → P (refused_service s) → P (served s six sync)
+answer-either : (P : Result Served Refusal → Type 0) (s : Service) (six sync : List ℕ)
+    → P (Ok (step_by s six (kind_of sync))) → P (Err Range) → P (served s six sync)
 unfolding served
-answer-either P s six sync h k = picked P (accepts s sync) (step_by s six (kind_of sync)) (refused_service s) h k
+answer-either P s six sync h k = picked P (accepts s sync) (Ok (step_by s six (kind_of sync))) (Err Range) h k
 
-pub step-moved : (s : Service) (x : Step) → InRange s → Moved 1 s (stepped s x).next
-unfolding refused_service
+pub step-moved : (s : Service) (x : Step) → InRange s → Moved 1 s (next_of s (stepped s x))
 step-moved s x h =
-    answer-either (λ r. Moved 1 s r.next) s x.six x.sync
+    answer-either (λ r. Moved 1 s (next_of s r)) s x.six x.sync
     (accepted-moved s x.six (kind_of x.sync) h)
     (record { range = h; further = omega arith })
 
@@ -75,13 +79,16 @@ unfolding after
 run_moved [] s h = record { range = h; further = omega arith }
 run_moved (x ∷ xs) s h =
     let one = step-moved s x h in
-    let rest = run_moved xs (stepped s x).next one.range in
+    let rest = run_moved xs (next_of s (stepped s x)) one.range in
     record { range = rest.range; further = omega (arith, one.further, rest.further) }
 
 -- ---- labels are not handed out before their time
-pub record NoLabels (r : Served) : Type 0 where
-  pub complete : r.complete ≡ false
-  pub labels : r.labels ≡ zeros 256
+abbrev pub labels_in : Result Served Refusal → Option (List ℕ)
+labels_in (Ok r) = r.labels
+labels_in (Err e) = None
+
+abbrev pub NoLabels : Result Served Refusal → Type 0
+NoLabels r = labels_in r ≡ None
 
 not-ready : (p t : ℕ) → 8 * t + p < 72 → is_ready p t ≡ false
 not-ready p t h = by-test (is_ready p t) refl where
@@ -90,12 +97,9 @@ not-ready p t h = by-test (is_ready p t) refl where
   by-test false e = refl
 
 pub far_none : (s : Service) (x : Step) → progress s < 72 → NoLabels (stepped s x)
-unfolding refused_service
 far_none s x h =
     let far = not-ready s.position s.stage h in
-    answer-either NoLabels s x.six x.sync
-    (record { complete = far; labels = rw far })
-    (record { complete = refl; labels = refl })
+    answer-either NoLabels s x.six x.sync (rw far) refl
 
 pub soon-none : (s : Service) → InRange s → progress s ≤ 1 → (xs : List Step) → length xs ≤ 70 → (x : Step) → NoLabels (stepped (after s xs) x)
 soon-none s h l xs n x = far_none (after s xs) x (omega (arith, (run_moved xs s h).further))
@@ -107,10 +111,10 @@ reset Second p x e = rw (e, not-true (is_open p) e) (omega arith)
 reset Neither p x e = omega arith
 
 module _ (s : Service) (six sync : List ℕ) (h : InRange s) (b : Below 2 sync) (e : drops_with (kind_of sync) s.position ≡ true) where
-  pub drop-resets : progress (served s six sync).next ≤ 1
+  pub drop-resets : progress (next_of s (served s six sync)) ≤ 1
   unfolding take_sync take_six
   drop-resets = rw (served-is s six h sync b) (reset (kind_of sync) s.position _ e)
 
-  pub drop-none : (xs : List Step) → length xs ≤ 70 → (x : Step) → NoLabels (stepped (after (served s six sync).next xs) x)
+  pub drop-none : (xs : List Step) → length xs ≤ 70 → (x : Step) → NoLabels (stepped (after (next_of s (served s six sync)) xs) x)
   drop-none =
-      soon-none (served s six sync).next (step-moved s (record { six = six; sync = sync }) h).range drop-resets
+      soon-none (next_of s (served s six sync)) (step-moved s (record { six = six; sync = sync }) h).range drop-resets

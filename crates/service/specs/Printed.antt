@@ -4,10 +4,11 @@
 use Rattle.std.specs.Prelude.{List, [], ◌∷◌, ℕ}
 use Rattle.bits.specs.Table.{zeros}
 use Rattle.bits.specs.Printed.{row, Row, ◌prints◌}
-use Rattle.service.specs.Service.{served}
+use Rattle.service.specs.Service.{served, number_told}
 
 abbrev pub serving : ℕ → ℕ → List ℕ → List ℕ
-serving p t sync = (served (record { position = p; group = zeros 32; stage = t; labels = zeros 256 }) (zeros 6) sync).number ∷ []
+serving p t sync =
+    number_told (served (record { position = p; group = zeros 32; stage = t; labels = zeros 256 }) (zeros 6) sync) ∷ []
 
 unfoldable pub printed_rows : List Row
 printed_rows =

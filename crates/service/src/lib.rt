@@ -3,12 +3,15 @@
 #![tactic(auto)]
 
 ghost use Rattle.std.specs.Prelude.{◌≡◌};
-ghost use Rattle.service.specs.Service.{searching_service, in_range, accepts, refused_service, served};
+ghost use Rattle.service.specs.Service.{searching_service, in_range, accepts, served};
 
-mod taking;
+mod taking; // taking.rt: what six bytes and the sync behind them make of the state
+
+use bits::Refusal;
+use service_sync::Kind;
 
 // Where the machine stands between two superframes. Places that carry nothing hold 0.
-#[derive(Clone, Copy)]
+#[derive(Clone, Copy, PartialEq, Eq, Debug)]
 pub struct Service {
     // the position that the next six bytes have, 1 to 8; 0: they belong to no open group
     pub position: u8,
@@ -21,16 +24,14 @@ pub struct Service {
 }
 
 // What one superframe's six bytes and sync give.
-#[derive(Clone, Copy)]
+#[derive(Clone, Copy, PartialEq, Eq, Debug)]
 pub struct Served {
-    // 0; 2: refused; 7: the sync is neither of the two
-    pub number: u8,
     // of the six bytes; 0: they belong to no open group
     pub position: u8,
-    // whether the labels are handed out
-    pub complete: bool,
-    // 32 labels of eight characters where they are handed out, else 0
-    pub labels: [u8; 256],
+    // which sync is behind them: neither of the two is number 7
+    pub kind: Kind,
+    // 32 labels of eight characters, where they are handed out
+    pub labels: Option<[u8; 256]>,
     pub next: Service,
 }
 
@@ -51,51 +52,30 @@ pub fn searching() -> Service
 pub fn in_range(service: Service) -> bool
     ensures { result ≡ in_range service }
 {
-    if service.position <= 8 {
-        return service.stage <= 8;
-    }
-    false
+    service.position <= 8 && service.stage <= 8
 }
 
+#[tactic(auto, unfolding(crate::specs::Service::accepts))]
 fn accepted(service: Service, sync: [u8; 16]) -> bool
     ensures { result ≡ accepts service sync }
 {
-    if in_range(service) {
-        return bits::all_below(&sync, 2);
-    }
-    false
+    in_range(service) && bits::are_bits(&sync)
 }
 
-fn refused(service: Service) -> Served
-    ensures { result ≡ refused_service service }
-{
-    Served {
-        number: 2,
-        position: 0,
-        complete: false,
-        labels: [0u8; 256],
-        next: service,
-    }
-}
-
-// The six bytes are taken first, then the sync.
-pub fn serve(service: Service, six: [u8; 6], sync: [u8; 16]) -> Served
+// The six bytes are taken first, then the sync. Refused with number 2 where the state is out of its range or an entry of the sync is no bit; the state is
+// then as it was given.
+pub fn serve(service: Service, six: [u8; 6], sync: [u8; 16]) -> Result<Served, Refusal>
     ensures { result ≡ served service six sync }
 {
     if !accepted(service, sync) {
-        return refused(service);
+        return Err(Refusal::Range);
     }
     let kind = service_sync::kind_of(sync);
-    let complete = service_group::ready(service.position, service.stage);
     let taken = taking::take_six(service, six);
-    let gathered = taken.labels;
-    let labels = taking::labels_if(complete, gathered);
-    let next = taking::take_sync(taken, kind);
-    Served {
-        number: service_sync::number_of(kind),
+    Ok(Served {
         position: service.position,
-        complete,
-        labels,
-        next,
-    }
+        kind,
+        labels: service_group::ready(service.position, service.stage).then_some(taken.labels),
+        next: taking::take_sync(taken, kind),
+    })
 }

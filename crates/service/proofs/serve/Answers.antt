@@ -5,11 +5,10 @@ use Rattle.service.proofs.serve.Goals as goal
 
 pub returns-then-not-accepted : goal.returns-then-not-accepted
 unfolding served
-returns-then-not-accepted c =
-    rw (c.refused.ensures, sym c.accepted.ensures ∙ c.if-not-accepted.true)
+returns-then-not-accepted c = rw (sym c.accepted.ensures ∙ c.if-not-accepted.true)
 
 pub returns : goal.returns
 unfolding served
 returns c =
     let yes = sym c.accepted.ensures ∙ c.if-not-accepted.false in
-    rw (c.number_of.ensures, c.take_sync-next.ensures, c.labels_if-labels.ensures, c.take_six-taken.ensures, c.ready-complete.ensures, c.kind_of-kind.ensures, yes)
+    rw (c.take_sync.ensures, c.then_some.ensures, c.ready.ensures, c.take_six-taken.ensures, c.kind_of-kind.ensures, yes)

@@ -6,4 +6,4 @@ use Rattle.service.proofs.taking.take_six.Goals as goal
 pub returns : goal.returns
 unfolding take_six labels_after
 returns c =
-    rw (c.stage_after-moved.ensures, c.write_labels-labels.ensures, c.group_if-characters.ensures, c.gather-group.ensures)
+    rw (c.write_labels.ensures, c.stage_after.ensures, c.kept_if-characters.ensures, c.gather-group.ensures)

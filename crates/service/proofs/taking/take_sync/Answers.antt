@@ -5,4 +5,4 @@ use Rattle.service.proofs.taking.take_sync.Goals as goal
 pub returns : goal.returns
 unfolding take_sync
 returns c =
-    rw (c.labels_if-labels.ensures, c.stage_unless-stage.ensures, c.drops.ensures, c.group_if-group.ensures, c.next_position-next.ensures)
+    rw (c.kept_if-2.ensures, c.kept_if.ensures, c.stage_unless-stage.ensures, c.drops.ensures, c.next_position-position.ensures)
