@@ -3,6 +3,8 @@
 --     count-told, offset-told      whether that is refused tells whether the part is good
 --     rest-told                    where both are, whether the header is refused tells whether it names no summary
 --     is_whole                      whether an ending is that of a header with nothing wrong
+--     err-refused                  reading a header is refused where its answer is a refusal
+--     refused-told                 a header that something is wrong with is read as refused
 --     fault-none                   nothing is wrong with a header exactly where reading it gives no number
 -- Assumes nothing.
 use mathlib.Core.Path.{◌≡◌, refl, sym, ap, ◌∙◌}
@@ -14,9 +16,13 @@ use lib.ListN.{length, get_or}
 use Rattle.bits.specs.Table.{tabulate}
 use Rattle.bits.specs.Digits.{value}
 use Rattle.bits.specs.Answer.{accepted, refused}
-use Rattle.reel.specs.Header.{number_at, most_superframes, good_header, header_of}
-use Rattle.ending.specs.declared.Ended.{Ended}
-use Rattle.ending.specs.declared.Ended.TheVariants.{Whole, Short, HeaderShort, CountTooLarge, OffsetTooSmall, HasSummary, NoRadius, NotRead, NotWritten}
+use Rattle.reel.specs.Header.{number_at, most_superframes, good_header, header_of, header_answer}
+use Rattle.std.specs.Prelude.{Result, Ok, Err, is_err}
+use Rattle.bits.specs.declared.refusal.Refusal.{Refusal}
+use Rattle.bits.specs.declared.refusal.Refusal.TheVariants.{Length, Range, Sync, Scale, Parity, Header, Full}
+use Rattle.reel.specs.declared.Header.{Header as Read}
+use Rattle.ending.specs.declared.Fault.{Fault}
+use Rattle.ending.specs.declared.Fault.TheVariants.{HeaderShort, CountTooLarge, OffsetTooSmall, HasSummary}
 use Rattle.input.specs.Fault.{is_refused, fault_of}
 
 abbrev pub count_alone : List ℕ → List ℕ
@@ -60,20 +66,18 @@ module _ (bytes : List ℕ) (r : Bool) where
       let left : is_refused (header_of bytes) ≡ not x = rw (long, count, offset) (alone x (number_at bytes 0 ∷ number_at bytes 4 ∷ [])) in
       sym (ap not (e ∙ left) ∙ not-not x)
 
-abbrev pub is_whole : Ended → Bool
-is_whole Whole = true
-is_whole Short = false
-is_whole HeaderShort = false
-is_whole CountTooLarge = false
-is_whole OffsetTooSmall = false
-is_whole HasSummary = false
-is_whole NoRadius = false
-is_whole (NotRead e) = false
-is_whole (NotWritten e) = false
+abbrev pub is_whole : Result Unit Fault → Bool
+is_whole (Ok tt) = true
+is_whole (Err e) = false
+
+-- by the tests of its four parts
+abbrev judged : (length count offset summary : Bool) → Result Unit Fault
+judged length count offset summary =
+    cond length (cond count (cond offset (cond summary (Ok tt) (Err HasSummary)) (Err OffsetTooSmall)) (Err CountTooLarge)) (Err HeaderShort)
 
 by_parts : (length count offset summary : Bool) (l : List ℕ)
     → is_refused (cond (length && ((count && offset) && summary)) (accepted l) (refused 8))
-    ≡ not (is_whole (cond length (cond count (cond offset (cond summary Whole HasSummary) OffsetTooSmall) CountTooLarge) HeaderShort))
+    ≡ not (is_whole (judged length count offset summary))
 by_parts true true true true l = refl
 by_parts true true true false l = refl
 by_parts true true false s l = refl
@@ -85,3 +89,28 @@ unfolding header_of good_header fault_of
 fault-none bytes =
     by_parts (leb 16 (length bytes)) (leb (number_at bytes 0) most_superframes) (leb 16 (number_at bytes 4))
     (eqb (number_at bytes 8) 0 && eqb (number_at bytes 12) 0) _
+
+by_fault : (length count offset summary : Bool) (l : List ℕ) (e : Fault)
+    → judged length count offset summary ≡ Err e
+    → cond (length && ((count && offset) && summary)) (accepted l) (refused 8) ≡ refused 8
+by_fault true true true true l e h = cc
+by_fault true true true false l e h = refl
+by_fault true true false s l e h = refl
+by_fault true false o s l e h = refl
+by_fault false c o s l e h = refl
+
+pub refused-told : (bytes : List ℕ) (e : Fault) → fault_of bytes ≡ Err e → header_of bytes ≡ refused 8
+unfolding header_of good_header fault_of
+refused-told bytes =
+    by_fault (leb 16 (length bytes)) (leb (number_at bytes 0) most_superframes) (leb 16 (number_at bytes 4))
+    (eqb (number_at bytes 8) 0 && eqb (number_at bytes 12) 0) _
+
+pub err-refused : (r : Result Read Refusal) → is_err r ≡ is_refused (header_answer r)
+err-refused (Ok h) = refl
+err-refused (Err Length) = refl
+err-refused (Err Range) = refl
+err-refused (Err Sync) = refl
+err-refused (Err Scale) = refl
+err-refused (Err Parity) = refl
+err-refused (Err Header) = refl
+err-refused (Err Full) = refl

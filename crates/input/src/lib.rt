@@ -1,91 +1,61 @@
-// A reel that comes from a reader, as standard input is one, in pieces: its header, and the bytes before its first superframe; and the radius that it shall be read at.
-// What comes from outside is not promised; what is made of it is. A read that fails is not the end of the reel: it is handed on by its error, 0 where none failed.
+// A reel that comes from a reader, as standard input is one, in pieces: its header, the bytes before its first superframe and its superframes; and the
+// radius that it shall be read at. What comes from outside is not promised; what is made of it is. A read that fails is not the end of the reel.
 #![tactic(auto)]
 
 mod fault;
 mod radius;
+mod superframes;
 
-ghost use Rattle.std.specs.Prelude.{◌≡◌, ◌≤◌, min};
-ghost use Rattle.reel.specs.Header.{header_answer};
+ghost use Rattle.std.specs.Prelude.{◌≤◌, IfOk, IsOk};
 ghost use Rattle.input.specs.Header.{SomeHeader};
+ghost use Rattle.input.specs.Fault.{header_told, fault_in};
 
-use ending::Ended;
-pub use fault::fault_of;
+use ending::Fault;
+pub use fault::header_in;
 pub use radius::{radius_at, radius_of};
-use reel::HeaderRead;
+use reel::Header;
 use std::io::Read;
-
-#[derive(Clone, Copy)]
-pub struct Start {
-    pub header: HeaderRead,
-    // why the header is refused, `Whole` where it is not
-    pub fault: Ended,
-    pub error: u32,
-}
+use streams::Errno;
+pub use superframes::{reach, read_all, read_places};
 
 // What the first 16 bytes say, or fewer where there are not so many.
-pub fn header<R: Read>(from: &mut R) -> Start
-    ensures { SomeHeader (header_answer result.header) result.fault }
+pub fn header<R: Read>(from: &mut R) -> Result<Result<Header, Fault>, Errno>
+    ensures { IfOk result (λ header. SomeHeader (header_told header) (fault_in header)) }
 {
     let mut bytes = [0u8; 16];
-    let filled = streams::fill(from, &mut bytes);
-    let n = filled.n;
-    Start {
-        header: reel::read_header(&bytes[..n]),
-        fault: fault_of(&bytes[..n]),
-        error: filled.error,
-    }
+    let came = streams::fill(from, &mut bytes)?;
+    Ok(header_in(&bytes[..came]))
 }
 
-fn least(a: usize, b: usize) -> usize
-    ensures { result ≡ min a b }
+// Reads past at most so many bytes, and answers how many came.
+fn pass<R: Read>(from: &mut R, most: u32) -> Result<u32, Errno>
+    ensures { IfOk result (λ came. came ≤ most) }
 {
-    if a < b { a } else { b }
-}
-
-#[derive(Clone, Copy)]
-struct Passed {
-    got: u32,
-    error: u32,
-}
-
-// Reads at most so many bytes over a piece, and answers how many came.
-fn read_over<R: Read>(from: &mut R, piece: &mut [u8], most: u32) -> Passed
-    ensures { result.got ≤ most }
-{
-    let want = least(most as usize, piece.len());
-    let filled = streams::fill(from, &mut piece[..want]);
-    Passed {
-        got: least(filled.n, most as usize) as u32,
-        error: filled.error,
-    }
+    let mut piece = [0u8; 4096];
+    let want = piece.len().min(most as usize);
+    let came = streams::fill(from, &mut piece[..want])?;
+    Ok(came as u32)
 }
 
 // Reads on past so many bytes, without holding them, or to the end of input.
-fn skip<R: Read>(from: &mut R, count: u32) -> u32 {
+fn skip<R: Read>(from: &mut R, count: u32) -> Result<(), Errno> {
     let mut left = count;
+    // no `for`: what is left falls by as many bytes as come
     while 0 < left {
-        let mut piece = [0u8; 4096];
-        let passed = read_over(from, &mut piece, left);
-        let error = passed.error;
-        if error != 0 {
-            return error;
+        match pass(from, left)? {
+            0 => break,
+            came => left -= came,
         }
-        let got = passed.got;
-        if got == 0 {
-            break;
-        }
-        left -= got;
     }
-    0
+    Ok(())
 }
 
 // Behind the 16 bytes of a header, reads on to the first superframe.
-pub fn skip_to<R: Read>(from: &mut R, offset: u32) -> u32
-    ensures { offset ≤ 16 → result ≡ 0 }
+pub fn skip_to<R: Read>(from: &mut R, offset: u32) -> Result<(), Errno>
+    ensures { offset ≤ 16 → IsOk result }
 {
     if 16 < offset {
         return skip(from, offset - 16);
     }
-    0
+    Ok(())
 }

@@ -12,7 +12,7 @@ ghost use Rattle.streams.specs.Error.{error_of, Told, number_in, came_in};
 
 pub use arguments::argument;
 pub use errno::{Errno, failed};
-pub use progress::{show, wipe};
+pub use progress::Progress;
 use std::io::{Read, Write};
 
 // A read that failed, behind the bytes that came at the start of the buffer.
