@@ -5,9 +5,10 @@
 --     every-fails                  one element at which it fails
 --     Missed, every-missed         where it does not pass, there is one
 --     every-tab                    a table, each of whose entries passes
+--     all-every-is                 std's word for it is this one
 --     every-at                     a table's rule: one test that is computed over the whole table says it of each entry
 -- Assumes nothing.
-use mathlib.Core.Path.{◌≡◌, refl, sym, ◌∙◌}
+use mathlib.Core.Path.{◌≡◌, refl, sym, ap, ◌∙◌}
 use mathlib.Core.Bool.{Bool, true, false, true≢false, ◌&&◌, and-true, and_assoc}
 use mathlib.Core.List.{List, [], ◌∷◌, ◌++◌}
 use Prim.Native.Nat.{ℕ, zero, suc, ◌+◌, ◌<◌, suc-le-suc}
@@ -17,6 +18,7 @@ use native.Mathlib.Omega.{arith}
 use lib.ListN.{length, get_or, take}
 use lib.Seq.{take-suc}
 use lib.Dec.{T}
+use Rattle.std.specs.List.{list_all}
 use Rattle.bits.specs.Table.{tabulate, every, All}
 use Rattle.bits.proofs.Tests.{either_way, both_true}
 
@@ -29,6 +31,11 @@ tail true b t = t
 tail false b t = absurd t
 
 module _ {A : Type 0} (f : A → Bool) where
+  pub all-every-is : (xs : List A) → list_all f xs ≡ every f xs
+  unfolding every
+  all-every-is [] = refl
+  all-every-is (x ∷ xs) = ap (λ (b : Bool). f x && b) (all-every-is xs)
+
   every-snoc : (xs : List A) (x : A) → every f (xs ++ (x ∷ [])) ≡ (every f xs && f x)
   unfolding every
   every-snoc [] x = and-true (f x)

@@ -2,6 +2,8 @@
 --     not_zero          no refusal has number 0
 --     number-same       two refusals of one number are the same
 --     told-same         two answers that say the same in document 01's terms are the same, where the values tell what was accepted
+--     same_number       and so are two answers of one number, where nothing is handed out
+--     ok_same           what two equal answers accepted is equal
 --     unrefused         number 0 is given exactly where something is accepted
 -- Assumes nothing.
 use mathlib.Core.Path.{◌≡◌, refl, sym, ap, ◌∙◌}
@@ -55,6 +57,15 @@ module _ {A B : Type 0} (f : A → List B) where
   told-same same (Ok x) (Err s) e = absurd (not_zero s (sym (ap (λ (a : Answer B). a.number) e)))
   told-same same (Err r) (Ok y) e = absurd (not_zero r (ap (λ (a : Answer B). a.number) e))
   told-same same (Err r) (Err s) e = ap Err (number-same r s (ap (λ (a : Answer B). a.number) e))
+
+pub ok_same : {A : Type 0} {x y : A} → ◌≡◌ {A = Result A Refusal} (Ok x) (Ok y) → x ≡ y
+ok_same e = cc
+
+pub same_number : (r s : Result (Unit {0}) Refusal) → number_in r ≡ number_in s → r ≡ s
+same_number (Ok _) (Ok _) e = refl
+same_number (Ok _) (Err s) e = absurd (not_zero s (sym e))
+same_number (Err r) (Ok _) e = absurd (not_zero r e)
+same_number (Err r) (Err s) e = ap Err (number-same r s e)
 
 pub unrefused : {A : Type 0} (r : Result A Refusal) → number_in r ≡ 0 → (x : A) × (r ≡ Ok x)
 unrefused (Ok x) e = (x, refl)

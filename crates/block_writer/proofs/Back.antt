@@ -14,6 +14,7 @@ use lib.Dec.{ltb}
 use lib.IntN.{ℤ, pos}
 use lib.ListN.{length, get_or, take, drop, length-drop, take-append-drop}
 use lib.Seq.{ext_get_or, get_or-take, get_or-drop, length-take-le, take_at, drop_at, take-take, drop-drop}
+use Rattle.std.specs.declared.result.Result.TheVariants.{Ok}
 use Rattle.bits.specs.Table.{every}
 use Rattle.bits.specs.Bits.{are_bits}
 use Rattle.bits.specs.Digits.{Below}
@@ -39,7 +40,7 @@ use Rattle.block_codes.specs.Codes.{code_at, codes_at, extra_at, codes_of}
 use Rattle.block_writer.specs.Written.{written_block}
 
 -- ---- what is written
-pub written_is : (codes : List ℤ) (extra : List ℕ) → every is_code codes ≡ true → are_bits extra ≡ true → written_block codes extra ≡ record { number = 0; bits = block_with codes extra }
+pub written_is : (codes : List ℤ) (extra : List ℕ) → every is_code codes ≡ true → are_bits extra ≡ true → written_block codes extra ≡ Ok (block_with codes extra)
 unfolding written_block
 written_is codes extra good bits = rw (good, bits)
 
@@ -175,13 +176,13 @@ module _ (block : List ℕ) (b : IsBlock block) where
       (ap₂ ◌++◌ rest-same (sym (drop-drop 12 63 block)) ∙ take-append-drop 12 (drop 63 block))
       ∙ take-append-drop 63 block
 
-  clean_is : CodeWord (protected block) → written_block read (extra_at block) ≡ record { number = 0; bits = block }
+  clean_is : CodeWord (protected block) → written_block read (extra_at block) ≡ Ok block
   unfolding extra_at
   clean_is w =
       written_is read (extra_at block) good (below-bits (extra_at block) (below-drop 2 75 block below))
-      ∙ ap (λ (l : List ℕ). record { number = 0; bits = l }) (clean-block w)
+      ∙ ap Ok (clean-block w)
 
-pub clean-written : (radius : ℕ) → radius ≤ largest_radius → (block : List ℕ) → length block ≡ 77 → said_of radius block ≡ accepted (clean ∷ []) → written_block (codes_at block) (extra_at block) ≡ record { number = 0; bits = block }
+pub clean-written : (radius : ℕ) → radius ≤ largest_radius → (block : List ℕ) → length block ≡ 77 → said_of radius block ≡ accepted (clean ∷ []) → written_block (codes_at block) (extra_at block) ≡ Ok block
 clean-written radius small block size e =
     let b : IsBlock block = record { size = size; bits = (heard radius block clean e).0 } in
     clean_is block b (clean-word radius small block b e)

@@ -3,10 +3,11 @@
 --     printed_rows             THE TABLE: codes of 14 bits and what lies next to them; extra bits that are none
 use Rattle.std.specs.Prelude.{List, [], ◌∷◌, ℕ, ℤ, pos, neg_ℤ}
 use Rattle.bits.specs.Printed.{Row, ◌prints◌}
+use Rattle.bits.specs.Refused.{number_in}
 use Rattle.block_writer.specs.Written.{written_block}
 
 abbrev pub writing : List ℤ → List ℕ → List ℕ
-writing codes extra = (written_block codes extra).number ∷ []
+writing codes extra = number_in (written_block codes extra) ∷ []
 
 unfoldable pub printed_rows : List Row
 printed_rows =

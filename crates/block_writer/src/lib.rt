@@ -4,27 +4,23 @@
 ghost use Rattle.std.specs.Prelude.{◌≡◌, ◌&&◌, ◌<◌, get_or};
 ghost use Rattle.bits.specs.Table.{every};
 ghost use Rattle.bits.specs.Bits.{are_bits};
+ghost use Rattle.bits.specs.Digits.{value};
+ghost use Rattle.remainder.specs.Remainder.{check_bits};
+ghost use Rattle.code.specs.Generators.{block_generator};
 ghost use Rattle.sample.specs.Sample.{is_code};
 ghost use Rattle.sample.specs.Pattern.{code_bits};
 ghost use Rattle.block.specs.Layout.{sound, block_with};
 ghost use Rattle.block_writer.specs.Written.{written_block};
 
-// Number 0 and the block, or number 2 and zeros.
-#[derive(Clone, Copy)]
-pub struct BlockWritten {
-    pub number: u8,
-    pub bits: [u8; 77],
-}
+use bits::Refusal;
 
 fn are_codes(codes: [i16; 4]) -> bool
     ensures { result ≡ every is_code codes }
 {
-    let mut i: usize = 0;
-    while i < 4 {
-        if !sample::is_code(codes[i]) {
+    for &code in &codes {
+        if !sample::is_code(code) {
             return false;
         }
-        i += 1;
     }
     true
 }
@@ -32,11 +28,7 @@ fn are_codes(codes: [i16; 4]) -> bool
 fn in_range(codes: [i16; 4], extra: [u8; 2]) -> bool
     ensures { result ≡ (every is_code codes && are_bits extra) }
 {
-    if are_codes(codes) {
-        bits::are_bits(&extra)
-    } else {
-        false
-    }
+    are_codes(codes) && bits::are_bits(&extra)
 }
 
 // Bit k of the 14 bits of a code, the highest first.
@@ -47,54 +39,59 @@ fn code_bit(code: i16, k: usize) -> u8
     ((sample::pattern::pattern_of(code) >> (13 - k)) % 2) as u8
 }
 
-// The 44 protected sound bits.
+// Bit j of the 44 protected sound bits.
+fn sound_bit(codes: &[i16; 4], j: usize) -> u8
+    requires { j < 44 }
+    ensures { result ≡ get_or (sound codes.now) j 0 }
+{
+    code_bit(codes[j / 11], j % 11)
+}
+
+// All 44.
 fn sound_of(codes: [i16; 4]) -> [u8; 44]
     ensures { result ≡ sound codes }
 {
-    let mut out = [0u8; 44];
-    let mut j: usize = 0;
-    while j < 44 {
-        out[j] = code_bit(codes[j / 11], j % 11);
-        j += 1;
-    }
-    out
+    std::array::from_fn(|j| sound_bit(&codes, j))
 }
 
-// The whole block: 44 sound bits, 19 check bits, 12 sound bits, 2 extra bits.
+// Bit j of the whole block: 44 sound bits, 19 check bits, 12 sound bits, 2 extra bits.
+fn bit_of(
+    protected: &[u8; 44],
+    check: u32,
+    codes: &[i16; 4],
+    extra: &[u8; 2],
+    j: usize,
+) -> u8
+    requires at { j < 77 }
+    requires sound_bits { protected.now ≡ sound codes.now }
+    requires check_bits { check ≡ value 2 (check_bits block_generator protected.now) }
+    ensures { result ≡ get_or (block_with codes.now extra.now) j 0 }
+{
+    if j < 44 {
+        protected[j]
+    } else if j < 63 {
+        ((check >> (62 - j)) % 2) as u8
+    } else if j < 75 {
+        code_bit(codes[(j - 63) / 3], 11 + (j - 63) % 3)
+    } else {
+        extra[j - 75]
+    }
+}
+
 fn bits_of(codes: [i16; 4], extra: [u8; 2]) -> [u8; 77]
     ensures { result ≡ block_with codes extra }
 {
     let protected = sound_of(codes);
     let check = code::block_check(&protected);
-    let mut out = [0u8; 77];
-    let mut j: usize = 0;
-    while j < 77 {
-        let bit = if j < 44 {
-            protected[j]
-        } else if j < 63 {
-            ((check >> (62 - j)) % 2) as u8
-        } else if j < 75 {
-            code_bit(codes[(j - 63) / 3], 11 + (j - 63) % 3)
-        } else {
-            extra[j - 75]
-        };
-        out[j] = bit;
-        j += 1;
-    }
-    out
+    std::array::from_fn(|j| bit_of(&protected, check, &codes, &extra, j))
 }
 
-pub fn write(codes: [i16; 4], extra: [u8; 2]) -> BlockWritten
+// A code outside -8192 to 8191, or an extra bit that is not 0 or 1, is refused.
+pub fn write(codes: [i16; 4], extra: [u8; 2]) -> Result<[u8; 77], Refusal>
     ensures { result ≡ written_block codes extra }
 {
     if !in_range(codes, extra) {
-        return BlockWritten {
-            number: 2,
-            bits: [0u8; 77],
-        };
+        return Err(Refusal::Range);
     }
-    BlockWritten {
-        number: 0,
-        bits: bits_of(codes, extra),
-    }
+    Ok(bits_of(codes, extra))
 }

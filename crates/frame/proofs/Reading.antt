@@ -3,7 +3,7 @@
 --     below-sent, below-service    what is carried of a bit is a bit, and so is what is read
 --     reads                        what 40 bytes read as, by their bits, where the sync has at most `most_wrong` wrong bits
 --     reads-right                  and where it is right
---     read-zero, read_found        number 0 says that there are 40 bytes with at most `most_wrong` wrong sync bits, and what was found
+--     read-zero, read_found        that it is not refused says that there are 40 bytes with at most `most_wrong` wrong sync bits, and what was found
 --     found-there                  each block found is gathered from its places
 --     sized-found, found-bits      so all four have 77 places, and every entry is 0 or 1
 -- Assumes nothing.
@@ -16,12 +16,17 @@ use native.Mathlib.Omega.{arith}
 use borrow.Author.Tests.{eq-eqb, le-leb, lt-ltb, eqb-true, leb-true}
 use lib.Dec.{eqb, leb}
 use lib.ListN.{length, get_or}
+use Rattle.std.specs.declared.result.Result.{Result}
+use Rattle.std.specs.declared.result.Result.TheVariants.{Err}
 use Rattle.bits.specs.Table.{tabulate, every}
 use Rattle.bits.specs.Bits.{bit_at, bits_of, are_bits}
+use Rattle.bits.specs.Refused.{number_in}
+use Rattle.bits.specs.declared.refusal.Refusal.{Refusal}
+use Rattle.bits.specs.declared.refusal.Refusal.TheVariants.{Length, Sync}
 use Rattle.bits.proofs.Table.{tab-ext, tab-get_or}
 use Rattle.bits.proofs.Bits.{below-bits, bits_of-at, bit_at-below, below-bits_of}
 use Rattle.frame.specs.Frame.{sync_word, service_in, block, deinterleave}
-use Rattle.frame.specs.Read.{wrong_sync, most_wrong, service_read, block_of, blocks_in, nothing, found, read_frame}
+use Rattle.frame.specs.Read.{wrong_sync, most_wrong, service_read, block_of, blocks_in, found, read_frame}
 use Rattle.frame.specs.declared.FrameRead.{FrameRead}
 use Rattle.frame.specs.declared.Letter.{Letter}
 use Rattle.frame.specs.declared.Letter.TheVariants.{A, B}
@@ -72,16 +77,16 @@ module _ (letter : Letter) (bytes bits : List ℕ) (sized : length bytes ≡ 40)
       reads 0 (sync-right letter bytes right) (omega arith)
 
 -- ---- a frame that was taken
-read-ways : (a b : Bool) (x y z : FrameRead) → (y.number ≡ 0 → ⊥) → (z.number ≡ 0 → ⊥) → (cond a (cond b x y) z).number ≡ 0 → (a ≡ true) × (b ≡ true)
+read-ways : (a b : Bool) (x y z : Result FrameRead Refusal) → (number_in y ≡ 0 → ⊥) → (number_in z ≡ 0 → ⊥) → number_in (cond a (cond b x y) z) ≡ 0 → (a ≡ true) × (b ≡ true)
 read-ways true true x y z hy hz e = (refl, refl)
 read-ways true false x y z hy hz e = absurd (hy e)
 read-ways false b x y z hy hz e = absurd (hz e)
 
-module _ (letter : Letter) (bytes : List ℕ) (taken : (read_frame letter bytes).number ≡ 0) where
+module _ (letter : Letter) (bytes : List ℕ) (taken : number_in (read_frame letter bytes) ≡ 0) where
   tests : (eqb (length bytes) 40 ≡ true) × (leb (wrong_sync letter bytes) most_wrong ≡ true)
-  unfolding read_frame nothing
+  unfolding read_frame
   tests =
-      read-ways (eqb (length bytes) 40) (leb (wrong_sync letter bytes) most_wrong) (found (wrong_sync letter bytes) (service_read letter bytes) (blocks_in bytes)) (nothing 3) (nothing 1)
+      read-ways (eqb (length bytes) 40) (leb (wrong_sync letter bytes) most_wrong) (found (wrong_sync letter bytes) (service_read letter bytes) (blocks_in bytes)) (Err Sync) (Err Length)
       (suc-ne-zero 2) (suc-ne-zero 0) taken
 
   pub read-zero : (length bytes ≡ 40) × (wrong_sync letter bytes ≤ most_wrong)

@@ -1,19 +1,28 @@
 -- What document 01 prints of main frames ("Main frame", "Numbers given").
 --     rest n            n bytes behind the first two, all 0
---     heard l bytes     the number that reading a frame of letter l gives, how many bits of its sync are wrong, and its service bit
+--     heard l bytes     the number that reading a frame of letter l gives, how many bits of its sync are wrong, and its service bit; a refusal has neither
 --     printed_rows       THE TABLE: the two sync words; frames by their first two bytes; refusals in their order
 use Rattle.std.specs.Prelude.{List, [], ◌∷◌, ◌++◌, ℕ, replicate}
+use Rattle.std.specs.declared.result.Result.{Result}
+use Rattle.std.specs.declared.result.Result.TheVariants.{Ok, Err}
+use Rattle.bits.specs.Refused.{number_of}
+use Rattle.bits.specs.declared.refusal.Refusal.{Refusal}
 use Rattle.bits.specs.Printed.{row, hex, Row, ◌prints◌}
 use Rattle.frame.specs.Frame.{sync_word}
 use Rattle.frame.specs.Read.{read_frame}
+use Rattle.frame.specs.declared.FrameRead.{FrameRead}
 use Rattle.frame.specs.declared.Letter.{Letter}
 use Rattle.frame.specs.declared.Letter.TheVariants.{A, B}
 
 abbrev pub rest : ℕ → List ℕ
 rest n = replicate n 0
 
+abbrev pub heard_of : Result FrameRead Refusal → List ℕ
+heard_of (Ok r) = 0 ∷ r.wrong ∷ r.service ∷ []
+heard_of (Err e) = number_of e ∷ 0 ∷ 0 ∷ []
+
 abbrev pub heard : Letter → List ℕ → List ℕ
-heard letter bytes = let r = read_frame letter bytes in r.number ∷ r.wrong ∷ r.service ∷ []
+heard letter bytes = heard_of (read_frame letter bytes)
 
 unfoldable pub printed_rows : List Row
 printed_rows =

@@ -5,7 +5,9 @@ ghost use Rattle.std.specs.Prelude.{◌≡◌, ℕ, ◌+◌, ◌-◌, ◌*◌, �
 ghost use Rattle.bits.specs.Table.{tabulate};
 ghost use Rattle.bits.specs.Bits.{bit_at};
 ghost use Rattle.frame.specs.Frame.{sync_word, service_in};
-ghost use Rattle.frame.specs.Read.{wrong_sync, service_read, block_of, gathered_of, nothing, read_frame};
+ghost use Rattle.frame.specs.Read.{wrong_sync, service_read, block_of, gathered_of, read_frame};
+
+use bits::Refusal;
 
 #[derive(Clone, Copy)]
 pub enum Letter {
@@ -13,23 +15,12 @@ pub enum Letter {
     B,
 }
 
-// Number 0, how many bits of the sync are wrong, the service bit and the four blocks; or number 1 or 3 and zeros.
+// How many bits of the sync are wrong, the service bit and the four blocks.
 #[derive(Clone, Copy)]
 pub struct FrameRead {
-    pub number: u8,
     pub wrong: u8,
     pub service: u8,
-    pub first: [u8; 77],
-    pub second: [u8; 77],
-    pub third: [u8; 77],
-    pub fourth: [u8; 77],
-}
-
-// Number 0 and a block; or number 1 or 2 and zeros.
-#[derive(Clone, Copy)]
-pub struct Gathered {
-    pub number: u8,
-    pub bits: [u8; 77],
+    pub blocks: [[u8; 77]; 4],
 }
 
 const SYNC_A: [u8; 11] = [1, 1, 1, 0, 0, 0, 1, 0, 0, 1, 0];
@@ -54,10 +45,8 @@ pub fn sync_errors(letter: Letter, bytes: &[u8]) -> u8
 {
     let sync = sync_of(letter);
     let mut wrong: u8 = 0;
-    let mut k: usize = 0;
-    while k < 11 {
+    for k in 0..11 {
         wrong += (sync[k] + bits::bit_of(bytes, k)) % 2;
-        k += 1;
     }
     wrong
 }
@@ -79,18 +68,12 @@ fn service_of(letter: Letter, bytes: &[u8]) -> u8
     carried(letter, bits::bit_of(bytes, 11))
 }
 
-fn wide(byte: u8) -> u16
-    ensures { (result ≡ byte) × (result < 256) }
-{
-    byte as u16
-}
-
 // The eight bits from bit `over` of byte `at` on.
 fn eight_from(bytes: &[u8], at: usize, over: u16) -> u8
     requires { (at + 1 < length bytes.now) × (over < 8) }
     ensures { (q : ℕ) → q < 8 → result / 2 ^ (7 - q) % 2 ≡ bit_at bytes.now (8 * at + over + q) }
 {
-    let both = wide(bytes[at]) * 256 + wide(bytes[at + 1]);
+    let both = u16::from(bytes[at]) * 256 + u16::from(bytes[at + 1]);
     ((both >> (8 - over)) % 256) as u8
 }
 
@@ -102,15 +85,13 @@ fn every_second(bytes: &[u8], start: usize) -> [u8; 77]
     let mut out = [0u8; 77];
     let first = start / 8;
     let over = (start % 8) as u16;
-    let mut g: usize = 0;
-    while g < 19 {
+    for g in 0..19 {
         let eight = eight_from(bytes, first + g, over);
         let j = 4 * g;
         out[j] = eight / 128 % 2;
         out[j + 1] = eight / 32 % 2;
         out[j + 2] = eight / 8 % 2;
         out[j + 3] = eight / 2 % 2;
-        g += 1;
     }
     out[76] = bits::bit_of(bytes, start + 152);
     out
@@ -124,62 +105,40 @@ fn gather(bytes: &[u8], b: usize) -> [u8; 77]
     every_second(bytes, 12 + 154 * (b / 2) + b % 2)
 }
 
-// A block out of a whole main frame.
+// A block out of a whole main frame: another length is refused, then a block that a frame does not have.
 #[tactic(auto, unfolding(crate::specs::Read::gathered_of))]
-pub fn block_of(bytes: &[u8], b: usize) -> Gathered
+pub fn block_of(bytes: &[u8], b: usize) -> Result<[u8; 77], Refusal>
     ensures { result ≡ gathered_of bytes.now b }
 {
     let n = bytes.len();
     if n != 40 {
-        return Gathered {
-            number: 1,
-            bits: [0u8; 77],
-        };
+        return Err(Refusal::Length);
     }
     if 4 <= b {
-        return Gathered {
-            number: 2,
-            bits: [0u8; 77],
-        };
+        return Err(Refusal::Range);
     }
-    Gathered {
-        number: 0,
-        bits: gather(bytes, b),
-    }
+    Ok(gather(bytes, b))
 }
 
-fn refused(number: u8) -> FrameRead
-    ensures { result ≡ nothing number }
-{
-    FrameRead {
-        number,
-        wrong: 0,
-        service: 0,
-        first: [0u8; 77],
-        second: [0u8; 77],
-        third: [0u8; 77],
-        fourth: [0u8; 77],
-    }
-}
-
-// A main frame is handed on as it came: wrong bits of its sync are not put right.
-pub fn read(letter: Letter, bytes: &[u8]) -> FrameRead
+// A main frame is handed on as it came: wrong bits of its sync are not put right. Another length is refused, then a sync with too many wrong bits.
+pub fn read(letter: Letter, bytes: &[u8]) -> Result<FrameRead, Refusal>
     ensures { result ≡ read_frame letter bytes.now }
 {
     if bytes.len() != 40 {
-        return refused(1);
+        return Err(Refusal::Length);
     }
     let wrong = sync_errors(letter, bytes);
     if MOST_WRONG < wrong {
-        return refused(3);
+        return Err(Refusal::Sync);
     }
-    FrameRead {
-        number: 0,
+    Ok(FrameRead {
         wrong,
         service: service_of(letter, bytes),
-        first: gather(bytes, 0),
-        second: gather(bytes, 1),
-        third: gather(bytes, 2),
-        fourth: gather(bytes, 3),
-    }
+        blocks: [
+            gather(bytes, 0),
+            gather(bytes, 1),
+            gather(bytes, 2),
+            gather(bytes, 3),
+        ],
+    })
 }

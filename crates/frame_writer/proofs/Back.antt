@@ -14,14 +14,18 @@ use native.Mathlib.Omega.{arith}
 use borrow.Author.Tests.{le-leb}
 use lib.ListN.{length, get_or, set, length-set}
 use lib.Seq.{ext_get_or, set-get_or, get_or-set_same, get_or-set_other}
+use Rattle.std.specs.declared.result.Result.TheVariants.{Ok}
+use Rattle.bits.specs.Refused.{number_in}
 use Rattle.bits.specs.Table.{every}
 use Rattle.bits.specs.Digits.{Below}
 use Rattle.bits.specs.Bits.{bit_at, bits_of, bytes_of, are_bits}
+use Rattle.bits.proofs.Refused.{ok_same}
 use Rattle.bits.proofs.Table.{get_or-tab}
 use Rattle.bits.proofs.Tests.{both_true}
 use Rattle.bits.proofs.Bits.{length-bits_of, length-bytes_of, bytes_back, bits_back, bits_below, bits_of-at}
 use Rattle.frame.specs.Frame.{sync_word, service_in, interleave, block, frame_bits, frame_bytes, block_at, bit_at_place}
 use Rattle.frame.specs.Read.{wrong_sync, service_read, blocks_in, found, blocks_read, read_frame}
+use Rattle.frame.specs.declared.FrameRead.{FrameRead}
 use Rattle.frame.specs.declared.Letter.{Letter}
 use Rattle.frame.specs.declared.Letter.TheVariants.{A, B}
 use Rattle.frame.proofs.Interleave.{below-interleave}
@@ -85,7 +89,7 @@ unfolding service_cleared service_in service_read
 cleared A bytes h = ap (λ (x : ℕ). bytes_of (set (bits_of bytes) 11 x)) (sym (bits_of-at bytes 11)) ∙ ap bytes_of (set-get_or (bits_of bytes) 11 0) ∙ bytes_back bytes h
 cleared B bytes h = refl
 
-module _ (letter : Letter) (bytes : List ℕ) (taken : (read_frame letter bytes).number ≡ 0) where
+module _ (letter : Letter) (bytes : List ℕ) (taken : number_in (read_frame letter bytes) ≡ 0) where
   long : length (bits_of bytes) ≡ 320
   long = length-bits_of bytes ∙ ap (λ (n : ℕ). 8 * n) (read-zero letter bytes taken).0
 
@@ -128,11 +132,11 @@ module _ (letter : Letter) (bytes : List ℕ) (taken : (read_frame letter bytes)
     unfolding frame_bytes
     bytes-kept h = ap bytes_of bits-kept ∙ cleared letter bytes h
 
-    pub right-writes : Below 256 bytes → (out : List ℕ) → length out ≡ 40
-        → FrameWritten letter (read_frame letter bytes).service (blocks_read (read_frame letter bytes)) out 0 (service_cleared letter bytes)
+    pub right-writes : Below 256 bytes → (out : List ℕ) → length out ≡ 40 → (r : FrameRead) → read_frame letter bytes ≡ Ok r
+        → FrameWritten letter r.service (blocks_read r) out 0 (service_cleared letter bytes)
     unfolding good_values
-    right-writes h out sized =
-        rw (read_found letter bytes taken)
+    right-writes h out sized r e =
+        rw (sym (ok_same (sym (read_found letter bytes taken) ∙ e)))
         (success letter (service_read letter bytes) (blocks_in bytes) out 0
         (number-none (length out) (service_read letter bytes) (blocks_in bytes) sized (rw (le-leb (service_read letter bytes) 1 (below-service letter bytes), found-bits bytes)))
         (service_cleared letter bytes) refl (sym (bytes-kept h)))

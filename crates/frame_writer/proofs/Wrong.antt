@@ -1,7 +1,7 @@
 -- Syncs with wrong bits (document 02, P1): a main frame that was written, with any of its bits turned.
 --     turned-wrong       as many bits of its sync are wrong as were turned there
 --     turned-reads       THE FIRST: with up to two it is read, with their number, and its service bit and blocks as they came
---     turned-refused     THE SECOND: with three or more it is refused with 3
+--     turned-refused     THE SECOND: with three or more it is refused with 3 (`Sync`)
 -- Assumes nothing.
 use mathlib.Core.Path.{◌≡◌, sym, ap, ◌∙◌}
 use mathlib.Core.List.{List}
@@ -9,6 +9,8 @@ use Prim.Native.Nat.{ℕ, ◌+◌, ◌%◌, ◌≤◌}
 use native.Mathlib.Omega.{arith}
 use borrow.Author.Tests.{eq-eqb, lt-leb}
 use lib.ListN.{length, get_or}
+use Rattle.std.specs.declared.result.Result.TheVariants.{Err}
+use Rattle.bits.specs.declared.refusal.Refusal.TheVariants.{Sync}
 use Rattle.bits.specs.Table.{tabulate}
 use Rattle.bits.specs.Bits.{bit_at}
 use Rattle.bits.proofs.Table.{tab-ext, tab-get_or, length-tab}
@@ -18,7 +20,7 @@ use Rattle.remainder.proofs.Sum.{get_or-⊕, ⊕-tab}
 use Rattle.code.specs.Words.{distance}
 use Rattle.code.proofs.Distance.{distance-changed}
 use Rattle.frame.specs.Frame.{sync_word, service_in, frame_bits}
-use Rattle.frame.specs.Read.{wrong_sync, most_wrong, nothing, found, read_frame}
+use Rattle.frame.specs.Read.{wrong_sync, most_wrong, found, read_frame}
 use Rattle.frame.specs.declared.Letter.{Letter}
 use Rattle.frame.proofs.Sync.{length-sync}
 use Rattle.frame.proofs.Places.{Sized, frame-sync, frame-service}
@@ -68,7 +70,7 @@ module _ (letter : Letter) (s : ℕ) (blocks : List (List ℕ)) (out frame : Lis
         gathered 3 (omega arith),
       )
 
-  pub turned-refused : 3 ≤ turned_sync mask → read_frame letter (damaged frame mask) ≡ nothing 3
+  pub turned-refused : 3 ≤ turned_sync mask → read_frame letter (damaged frame mask) ≡ Err Sync
   unfolding read_frame
   turned-refused many =
       rw (

@@ -13,31 +13,31 @@ use Rattle.sample.specs.Sample.{is_code}
 use borrow.Author.Rules.{rules}
 use Rattle.block_writer.proofs.are_codes.Goals as goal
 
-pub loop-i-init : goal.loop-i-init
+pub loop-code-init : goal.loop-code-init
 unfolding every
-loop-i-init c = (search rules, refl)
+loop-code-init c = (search rules, refl)
 
 pub returns-then-not-is_code : goal.returns-then-not-is_code
 returns-then-not-is_code c =
-    let tested : c.is_code.result ≡ is_code (get_or c.args.codes c.loop-i.i (pos 0)) = let code = get_or c.args.codes c.loop-i.i (pos 0) in
+    let tested : c.is_code.result ≡ is_code (get_or c.args.codes c.loop-code.code-index (pos 0)) = let code = get_or c.args.codes c.loop-code.code-index (pos 0) in
     c.is_code.ensures ∙ ap is_code (to_z-of_z w16 code (record { sfits = search rules })) in
     let codes = c.args.codes in
     let four : length codes ≡ 4 = search rules in
-    sym (every-fails is_code codes c.loop-i.i (pos 0) (omega arith) (sym tested ∙ c.if-not-is_code.true))
+    sym (every-fails is_code codes c.loop-code.code-index (pos 0) (omega arith) (sym tested ∙ c.if-not-is_code.true))
 
-pub loop-i-preserved : goal.loop-i-preserved
-loop-i-preserved c =
-    let tested : c.is_code.result ≡ is_code (get_or c.args.codes c.loop-i.i (pos 0)) = let code = get_or c.args.codes c.loop-i.i (pos 0) in
+pub loop-code-preserved : goal.loop-code-preserved
+loop-code-preserved c =
+    let tested : c.is_code.result ≡ is_code (get_or c.args.codes c.loop-code.code-index (pos 0)) = let code = get_or c.args.codes c.loop-code.code-index (pos 0) in
     c.is_code.ensures ∙ ap is_code (to_z-of_z w16 code (record { sfits = search rules })) in
     let codes = c.args.codes in
     let four : length codes ≡ 4 = search rules in
-    let l = c.loop-i in
-    let more : is_code (get_or codes l.i (pos 0)) ≡ true = sym tested ∙ c.if-not-is_code.false in
-    (search rules, rw (every_take is_code codes l.i (pos 0) (omega arith), l.invariant.1, more))
+    let l = c.loop-code in
+    let more : is_code (get_or codes l.code-index (pos 0)) ≡ true = sym tested ∙ c.if-not-is_code.false in
+    (search rules, rw (every_take is_code codes l.code-index (pos 0) (omega arith), l.invariant.1, more))
 
 pub returns : goal.returns
 returns c =
     let codes = c.args.codes in
     let four : length codes ≡ 4 = search rules in
-    let all : take c.loop-i.i codes ≡ codes = take_all c.loop-i.i codes (omega arith) in
-    sym (ap (every is_code) (sym all) ∙ c.loop-i.invariant.1)
+    let all : take c.loop-code.code-index codes ≡ codes = take_all c.loop-code.code-index codes (omega arith) in
+    sym (ap (every is_code) (sym all) ∙ c.loop-code.invariant.1)

@@ -9,7 +9,7 @@ pub returns-then-bytes-ne40 : goal.returns-then-bytes-ne40
 unfolding read_frame
 returns-then-bytes-ne40 c =
     let a = c.args in
-    rw (ne_eqb (length a.bytes.now) 40 (λ e. omega arith)) c.refused.ensures
+    rw (ne_eqb (length a.bytes.now) 40 (λ e. omega arith))
 
 pub returns-then-wrong-gt-MOST_WRONG : goal.returns-then-wrong-gt-MOST_WRONG
 unfolding read_frame
@@ -20,7 +20,6 @@ returns-then-wrong-gt-MOST_WRONG c =
       eq-eqb (length a.bytes.now) 40 (omega arith),
       lt-leb (wrong_sync a.letter a.bytes.now) most_wrong (omega arith),
     )
-    c.refused-then-wrong-gt-MOST_WRONG.ensures
 
 pub returns : goal.returns
 unfolding read_frame

@@ -1,6 +1,6 @@
 -- `frame_writer::fill` meets its contract: the first i bytes are made. Assumes nothing.
 use mathlib.Core.Path.{◌≡◌}
-use Prim.Native.Nat.{◌-◌, ◌*◌, ◌≤◌}
+use Prim.Native.Nat.{◌*◌, ◌≤◌}
 use lib.ListN.{length, take}
 use Rattle.bits.specs.Table.{tabulate}
 use Rattle.bits.specs.Bits.{byte_at}
@@ -8,6 +8,3 @@ use Rattle.frame_writer.proofs.fill.Given as goal
 
 abbrev pub invariant-loop-i : goal.invariant-loop-i
 invariant-loop-i l = (l.i ≤ 40) × (length l.out ≡ 40) × (take l.i l.out ≡ tabulate l.i (λ i. byte_at l.bits (8 * i)))
-
-abbrev pub decreases-loop-i : goal.decreases-loop-i
-decreases-loop-i l = 40 - l.i
