@@ -110,7 +110,7 @@ module _ (codes : List ℤ) (extra : List ℕ) (four : length codes ≡ 4) (two 
       sym (drop-drop 12 63 block) ∙ ap (drop 12) (drop_at (encode block_generator (sound codes)) (rest codes ++ extra) 63 (length-63 codes extra four))
       ∙ drop_at (rest codes) extra 12 (length_rest codes ∙ omega arith)
 
-  pub written-codes : codes_of block ≡ record { number = 0; codes = codes; extra = extra }
+  pub written-codes : codes_of block ≡ Ok (record { codes = codes; extra = extra })
   unfolding codes_of
   written-codes = rw (is_block.bits, codes-back, extra-back)
 

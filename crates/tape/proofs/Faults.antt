@@ -10,19 +10,22 @@ use mathlib.Core.List.{List}
 use Prim.Native.Nat.{ℕ, ◌<◌}
 use native.Mathlib.Omega.{arith}
 use borrow.Author.Tests.{leb-false}
-use lib.Dec.{eqb, leb}
+use lib.Dec.{leb}
 use lib.ListN.{length}
+use Rattle.std.specs.declared.result.Result.{Result}
+use Rattle.std.specs.declared.result.Result.TheVariants.{Ok, Err}
+use Rattle.bits.specs.Refused.{number_in}
+use Rattle.bits.specs.declared.refusal.Refusal.{Refusal}
 use Rattle.bits.specs.Table.{tabulate}
 use Rattle.bits.specs.Order.{Refused, Accepted}
 use Rattle.bits.proofs.Table.{length-tab, get_or-tab}
-use Rattle.bits.proofs.Tests.{either_way}
 use Rattle.bits.proofs.Every.{every-missed}
 use Rattle.bits.proofs.Order.{Tells, tells-length, tested}
 use Rattle.reading.specs.Reading.{ordinary}
 use Rattle.frame.specs.Read.{most_wrong}
-use Rattle.tape.specs.Tape.{wrong_at, synced, no_blocks, refused_counts, counted_with, sync_number, counts_of}
+use Rattle.tape.specs.Tape.{wrong_at, synced, no_blocks, wrong_told, blocks_told, counted_with, sync_number, syncs_of, counts_of}
 use Rattle.tape.specs.Faults.{WrongSync, frame}
-use Rattle.tape.proofs.Tape.{not-sync}
+use Rattle.tape.proofs.Tape.{not-sync, syncs-number}
 
 module _ (sf : List ℕ) where
   found : synced sf ≡ false → WrongSync sf
@@ -42,14 +45,18 @@ module _ (sf : List ℕ) where
   unfolding sync_number
   sync-order = tested _ _ (tells-length (length sf) 5120) (tested _ _ tells-sync refl)
 
-  counted-number : (radius n : ℕ) → (counted_with radius n sf).number ≡ n
-  unfolding counted_with refused_counts
-  counted-number radius n = either_way (eqb n 0) (λ t. rw t (sym (borrow.Author.Tests.eqb-true n 0 t))) (λ t. rw t)
+  counted-number : (radius : ℕ) (s : Result ℕ Refusal) → number_in (counted_with radius s sf) ≡ number_in s
+  counted-number radius (Ok w) = refl
+  counted-number radius (Err e) = refl
 
-  pub counts-order : Refused (length sf ≢ 5120) 1 (Refused (WrongSync sf) 3 Accepted) (counts_of sf).number
+  pub counts-order : Refused (length sf ≢ 5120) 1 (Refused (WrongSync sf) 3 Accepted) (number_in (counts_of sf))
   unfolding counts_of
-  counts-order = subst (Refused (length sf ≢ 5120) 1 (Refused (WrongSync sf) 3 Accepted)) (sym (counted-number ordinary (sync_number sf))) sync-order
+  counts-order = subst (Refused (length sf ≢ 5120) 1 (Refused (WrongSync sf) 3 Accepted)) (sym (counted-number ordinary (syncs_of sf) ∙ syncs-number sf)) sync-order
 
-  pub refused-empty : ((counts_of sf).number ≢ 0) → ((counts_of sf).wrong ≡ 0) × ((counts_of sf).blocks ≡ no_blocks)
-  unfolding counts_of counted_with refused_counts
-  refused-empty h = either_way (eqb (sync_number sf) 0) (λ t. absurd (h (rw t))) (λ t. (rw t refl, rw t refl))
+  empty : (s : Result ℕ Refusal) → (number_in (counted_with ordinary s sf) ≢ 0) → (wrong_told (counted_with ordinary s sf) ≡ 0) × (blocks_told (counted_with ordinary s sf) ≡ no_blocks)
+  empty (Ok w) h = absurd (h refl)
+  empty (Err e) h = (refl, refl)
+
+  pub refused-empty : (number_in (counts_of sf) ≢ 0) → (wrong_told (counts_of sf) ≡ 0) × (blocks_told (counts_of sf) ≡ no_blocks)
+  unfolding counts_of
+  refused-empty h = empty (syncs_of sf) h

@@ -4,5 +4,5 @@
 mod blocks;
 mod frames;
 
-pub use blocks::{Blocks, Counted, Quad, counts, gathered, read_at, refused};
-pub use frames::{SyncsRead, syncs};
+pub use blocks::{Blocks, Counted, counts, gathered, read_at};
+pub use frames::syncs;

@@ -1,35 +1,34 @@
 -- `sound::fill` meets its contract. Assumes nothing.
-use mathlib.Core.Path.{refl, sym, ap₂, ◌∙◌}
-use borrow.Author.Tests.{ne_eqb}
+use mathlib.Core.Path.{refl, sym, ap, ◌∙◌}
+use Rattle.bits.specs.declared.refusal.Refusal.TheVariants.{Length, Range}
 use Rattle.tape.specs.Tape.{gathered_from}
-use Rattle.sound.specs.Sound.{fill_number}
-use Rattle.tape.proofs.Tape.{number-said, wrong-said, gathered-counts}
+use Rattle.sound.specs.Sound.{fill_syncs}
+use Rattle.tape.proofs.Tape.{gathered-counts}
 use Rattle.sound.proofs.Samples.{fits, refused-filled, all-filled}
+use borrow.Author.Rules.{rules}
 use Rattle.sound.proofs.fill.Goals as goal
 
 pub returns-then-not-lengths_fit : goal.returns-then-not-lengths_fit
-unfolding fill_number
+unfolding fill_syncs
 returns-then-not-lengths_fit c =
     let a = c.args in
-    refused-filled a.radius a.bytes.now a.factors.now a.samples.now a.marks.now _ 1
-    (rw (sym c.lengths_fit.ensures ∙ c.if-not-lengths_fit.true)) refl c.refused.ensures
+    refused-filled a.radius a.bytes.now a.factors.now a.samples.now a.marks.now _ Length (rw (sym c.lengths_fit.ensures ∙ c.if-not-lengths_fit.true)) refl
 
 pub returns-then-not-is_radius : goal.returns-then-not-is_radius
-unfolding fill_number
+unfolding fill_syncs
 returns-then-not-is_radius c =
     let a = c.args in
     let good = sym c.lengths_fit.ensures ∙ c.if-not-lengths_fit.false in
-    refused-filled a.radius a.bytes.now a.factors.now a.samples.now a.marks.now _ 2
-    (rw (good, sym c.is_radius.ensures ∙ c.if-not-is_radius.true)) refl c.refused-then-not-is_radius.ensures
+    refused-filled a.radius a.bytes.now a.factors.now a.samples.now a.marks.now _ Range (rw (good, sym c.is_radius.ensures ∙ c.if-not-is_radius.true)) refl
 
-pub returns-then-syncs-ne0 : goal.returns-then-syncs-ne0
-unfolding fill_number
-returns-then-syncs-ne0 c =
+pub returns-in_err-wrong : goal.returns-in_err-wrong
+unfolding fill_syncs
+returns-in_err-wrong c =
     let a = c.args in
     let good = sym c.lengths_fit.ensures ∙ c.if-not-lengths_fit.false in
     let chosen = sym c.is_radius.ensures ∙ c.if-not-is_radius.false in
-    refused-filled a.radius a.bytes.now a.factors.now a.samples.now a.marks.now _ c.syncs-syncs.result.number
-    (rw (good, chosen) (sym (number-said a.bytes.now _ c.syncs-syncs.ensures))) (ne_eqb _ 0 c.if-syncs-ne0.true) c.refused-then-syncs-ne0.ensures
+    let e = c.in_err-wrong.field-0.0 in
+    refused-filled a.radius a.bytes.now a.factors.now a.samples.now a.marks.now _ e (rw (good, chosen) (sym c.syncs.ensures ∙ c.in_err-wrong.was)) (search rules)
 
 pub fill_all-read-requires : goal.fill_all-read-requires
 fill_all-read-requires c =
@@ -42,15 +41,15 @@ fill_all-read-requires c =
     }
 
 pub returns : goal.returns
-unfolding fill_number
+unfolding fill_syncs
 returns c =
     let a = c.args in
     let good = sym c.lengths_fit.ensures ∙ c.if-not-lengths_fit.false in
     let chosen = sym c.is_radius.ensures ∙ c.if-not-is_radius.false in
-    let syncs = c.syncs-syncs.ensures in
     let read = c.fill_all-read.ensures in
-    all-filled a.radius a.bytes.now a.factors.now a.samples.now a.marks.now _ _ _
-    (rw (good, chosen) (sym (number-said a.bytes.now _ syncs) ∙ c.if-syncs-ne0.false))
-    (c.gathered.ensures ∙ ap₂ gathered_from (wrong-said a.bytes.now _ syncs c.if-syncs-ne0.false) read.value ∙ gathered-counts a.radius a.bytes.now)
+    let w = c.in_ok-wrong.wrong in
+    all-filled a.radius a.bytes.now a.factors.now a.samples.now a.marks.now _ _ _ w
+    (rw (good, chosen) (sym c.syncs.ensures ∙ c.in_ok-wrong.was))
+    (c.gathered.ensures ∙ ap (gathered_from w) read.value ∙ gathered-counts a.radius a.bytes.now w)
     read.samples_after
     read.marks_after

@@ -1,6 +1,6 @@
 -- The loop of `sound::fill_by`: both slices are filled below place 4 n, and the marks of n blocks are kept. Assumes nothing.
 use mathlib.Core.Path.{◌≡◌}
-use Prim.Native.Nat.{◌-◌, ◌*◌, ◌≤◌}
+use Prim.Native.Nat.{◌*◌, ◌≤◌}
 use lib.ListN.{length, take}
 use Rattle.bits.specs.Table.{tabulate}
 use Rattle.bits.proofs.Table.{filled}
@@ -15,6 +15,3 @@ invariant-loop-n l =
     × (l.marks ≡ filled (in_rows (mark_at l.radius l.sf l.factors)) (4 * l.n) l.initial.marks)
     × (length l.out ≡ 512)
     × (take l.n l.out ≡ tabulate l.n (in_eights (block_mark l.radius l.sf)))
-
-abbrev pub decreases-loop-n : goal.decreases-loop-n
-decreases-loop-n l = 512 - l.n

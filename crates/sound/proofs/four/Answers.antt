@@ -1,5 +1,5 @@
 -- `sound::four` meets its contract. Assumes nothing.
-use mathlib.Core.Path.{◌≡◌, ap, ◌∙◌}
+use mathlib.Core.Path.{◌≡◌, sym, ap, ◌∙◌}
 use mathlib.Core.List.{List}
 use Prim.Native.Nat.{ℕ, ◌+◌, ◌*◌, ◌/◌, ◌%◌, ◌<◌}
 use native.Mathlib.Numerals.{add-one}
@@ -9,6 +9,8 @@ use lib.ListN.{length, get_or}
 use mir.Syntax.{w16}
 use mir.Val.{to_z, of_z}
 use mir.ValLaws.{to_z-of_z}
+use Rattle.std.specs.declared.result.Result.TheVariants.{Ok}
+use Rattle.bits.proofs.Refused.{ok_same}
 use Rattle.bits.proofs.Table.{filled_zero, filled-set, filled-all}
 use Rattle.sample.specs.Sample.{is_code}
 use Rattle.reading.specs.Reading.{is_radius}
@@ -16,23 +18,29 @@ use lib.Signed.{mag}
 use mathlib.Core.Bool.{true}
 use Rattle.block.specs.Read.{handed_on}
 use Rattle.block_codes.specs.Codes.{codes_at}
-use Rattle.words.specs.Words.{told_of, Tables}
-use Rattle.tape.specs.Tape.{block_in, block_mark, quad_in, quad_by}
+use Rattle.words.specs.Words.{told_of, true_reader}
+use Rattle.words.specs.declared.Reader.{Reader}
+use Rattle.words.specs.declared.Told.{Told}
+use Rattle.tape.specs.Tape.{block_in, block_mark, quad_in, quad_with}
 use Rattle.sound.specs.Sound.{sound_at, mark_with, sample_at, mark_at, in_rows}
-use Rattle.tape.specs.declared.blocks.Quad.{Quad}
 use Rattle.tape.proofs.Quads.{quad-mark, quad-given}
 use Rattle.sound.proofs.Samples.{code-there, code_inside, sample-there, mark-there}
 use borrow.Author.Rules.{rules}
 use Rattle.sound.proofs.four.Goals as goal
 
 -- a superframe, and a place that is there: the block was not refused
-module _ (table singles pairs places starts : List ℕ) (ones : Tables table singles pairs places starts) (radius : ℕ) (chosen : is_radius radius ≡ true)
-    (sf : List ℕ) (n : ℕ) (whole : (length sf ≡ 5120) × (n < 512)) (q : Quad) (e : q ≡ quad_by table singles pairs places starts radius sf (n / 8) (n % 8)) where
+module _ (reader : Reader) (ones : reader ≡ true_reader) (radius : ℕ) (chosen : is_radius radius ≡ true)
+    (sf : List ℕ) (n : ℕ) (whole : (length sf ≡ 5120) × (n < 512)) where
+  there : quad_with reader radius sf (n / 8) (n % 8) ≡ Ok (quad_in radius sf (n / 8) (n % 8))
+  there = quad-given reader ones radius chosen sf (n / 8) (n % 8) whole.0 (omega arith) (omega arith)
+
+module _ (reader : Reader) (ones : reader ≡ true_reader) (radius : ℕ) (chosen : is_radius radius ≡ true)
+    (sf : List ℕ) (n : ℕ) (whole : (length sf ≡ 5120) × (n < 512)) (q : Told) (e : quad_with reader radius sf (n / 8) (n % 8) ≡ Ok q) where
   given : q ≡ quad_in radius sf (n / 8) (n % 8)
-  given = e ∙ quad-given table singles pairs places starts ones radius chosen sf (n / 8) (n % 8) whole.0 (omega arith) (omega arith)
+  given = ok_same (sym e ∙ there reader ones radius chosen sf n whole)
 
   mark_is : q.mark ≡ block_mark radius sf (n / 8) (n % 8)
-  mark_is = ap (λ (q : Quad). q.mark) given ∙ quad-mark radius sf (n / 8) (n % 8) (omega arith) (omega arith)
+  mark_is = ap (λ (q : Told). q.mark) given ∙ quad-mark radius sf (n / 8) (n % 8) (omega arith) (omega arith)
 
   block : List ℕ
   block = handed_on radius (block_in sf (n / 8) (n % 8))
@@ -40,7 +48,7 @@ module _ (table singles pairs places starts : List ℕ) (ones : Tables table sin
   -- code j of the block that was read
   code_is : (j : ℕ) → mag (get_or q.codes j (pos 0)) < 32768 → to_z w16 (of_z w16 (get_or q.codes j (pos 0))) ≡ get_or (codes_at block) j (pos 0)
   unfolding quad_in told_of block
-  code_is j h = to_z-of_z w16 (get_or q.codes j (pos 0)) (record { sfits = h }) ∙ ap (λ (q : Quad). get_or q.codes j (pos 0)) given
+  code_is j h = to_z-of_z w16 (get_or q.codes j (pos 0)) (record { sfits = h }) ∙ ap (λ (q : Told). get_or q.codes j (pos 0)) given
 
   inside : (j : ℕ) → j < 4 → mag (get_or q.codes j (pos 0)) < 32768 → is_code (to_z w16 (of_z w16 (get_or q.codes j (pos 0)))) ≡ true
   unfolding block
@@ -55,28 +63,34 @@ module _ (table singles pairs places starts : List ℕ) (ones : Tables table sin
   said : (factors : List ℕ) (j : ℕ) → j < 4 → mark_with q.mark (get_or factors (4 * (n % 8) + j) 0) ≡ in_rows (mark_at radius sf factors) (4 * n + j)
   said factors j h = rw mark_is (mark-there radius sf factors n j h)
 
+pub unwrap-block-requires : goal.unwrap-block-requires
+unwrap-block-requires c =
+    let a = c.args in
+    let r = c.requires in
+    rw (c.read_at.ensures, there a.reader.now r.tables a.radius r.radius_value a.sf.now a.n r.sf_len) (search rules)
+
 pub loop-j-init : goal.loop-j-init
 loop-j-init c = (search rules, filled_zero _ _, filled_zero _ _)
 
-pub sound_of-x-requires : goal.sound_of-x-requires
-sound_of-x-requires c =
+pub sound_of-requires : goal.sound_of-requires
+sound_of-requires c =
     let a = c.args in
     let r = c.requires in
-    inside _ _ _ _ _ r.tables a.radius r.radius_value a.sf.now a.n r.sf_len c.read_at-block.result c.read_at-block.ensures c.loop-j.j (omega arith) (omega arith)
+    inside a.reader.now r.tables a.radius r.radius_value a.sf.now a.n r.sf_len c.unwrap-block.result (sym c.read_at.ensures ∙ c.unwrap-block.ensures) c.loop-j.j (omega arith) (omega arith)
 
 pub loop-j-preserved : goal.loop-j-preserved
 loop-j-preserved c =
     let a = c.args in
     let r = c.requires in
     let j = c.loop-j.j in
-    let sample : c.sound_of-x.result ≡ in_rows (sample_at a.radius a.sf.now a.factors.now) (4 * a.n + j) =
-    c.sound_of-x.ensures
-    ∙ heard _ _ _ _ _ r.tables a.radius r.radius_value a.sf.now a.n r.sf_len c.read_at-block.result c.read_at-block.ensures a.factors.now j (omega arith) (omega arith) in
-    let mark : c.marked-m.result ≡ in_rows (mark_at a.radius a.sf.now a.factors.now) (4 * a.n + j) =
-    c.marked-m.ensures
-    ∙ said _ _ _ _ _ r.tables a.radius r.radius_value a.sf.now a.n r.sf_len c.read_at-block.result c.read_at-block.ensures a.factors.now j (omega arith) in (
+    let sample : c.sound_of.result ≡ in_rows (sample_at a.radius a.sf.now a.factors.now) (4 * a.n + j) =
+    c.sound_of.ensures
+    ∙ heard a.reader.now r.tables a.radius r.radius_value a.sf.now a.n r.sf_len c.unwrap-block.result (sym c.read_at.ensures ∙ c.unwrap-block.ensures) a.factors.now j (omega arith) (omega arith) in
+    let mark : c.marked.result ≡ in_rows (mark_at a.radius a.sf.now a.factors.now) (4 * a.n + j) =
+    c.marked.ensures
+    ∙ said a.reader.now r.tables a.radius r.radius_value a.sf.now a.n r.sf_len c.unwrap-block.result (sym c.read_at.ensures ∙ c.unwrap-block.ensures) a.factors.now j (omega arith) in (
       search rules,
-      rw (to_z-of_z w16 c.sound_of-x.result (record { sfits = c.sound_of-x.type_inv }), sample, c.loop-j.invariant.1, add-one)
+      rw (to_z-of_z w16 c.sound_of.result (record { sfits = c.sound_of.type_inv }), sample, c.loop-j.invariant.1, add-one)
           (filled-set (λ j. in_rows (sample_at a.radius a.sf.now a.factors.now) (4 * a.n + j)) j a.samples.now (omega arith)),
       rw (mark, c.loop-j.invariant.2, add-one)
           (filled-set (λ j. in_rows (mark_at a.radius a.sf.now a.factors.now) (4 * a.n + j)) j a.marks.now (omega arith)),
@@ -88,7 +102,7 @@ returns c =
     let r = c.requires in
     let e : c.loop-j.j ≡ 4 = omega arith in
     record {
-      value = mark_is _ _ _ _ _ r.tables a.radius r.radius_value a.sf.now a.n r.sf_len c.read_at-block.result c.read_at-block.ensures;
+      value = mark_is a.reader.now r.tables a.radius r.radius_value a.sf.now a.n r.sf_len c.unwrap-block.result (sym c.read_at.ensures ∙ c.unwrap-block.ensures);
       samples_after = c.loop-j.invariant.1 ∙ rw e (filled-all _ 4 a.samples.now r.samples_len);
       marks_after = c.loop-j.invariant.2 ∙ rw e (filled-all _ 4 a.marks.now r.marks_len);
     }

@@ -1,26 +1,28 @@
 -- `tape::blocks::counts` meets its contract. Assumes nothing.
-use mathlib.Core.Path.{sym, ap, ap₂, ◌∙◌}
+use mathlib.Core.Path.{◌≡◌, sym, ap, ◌∙◌}
 use Prim.Native.Nat.{ℕ}
-use borrow.Author.Tests.{ne_eqb}
+use Rattle.std.specs.declared.result.Result.{Result}
+use Rattle.std.specs.declared.result.Result.TheVariants.{Err}
+use Rattle.bits.specs.declared.refusal.Refusal.{Refusal}
 use Rattle.reading.specs.Reading.{ordinary}
 use Rattle.tape.specs.Tape.{gathered_from, counted_with, counts_of}
-use Rattle.tape.proofs.Tape.{sync-long, number-said, wrong-said, gathered-counts}
+use Rattle.tape.proofs.Tape.{syncs-known, gathered-counts}
+use borrow.Author.Rules.{rules}
 use Rattle.tape.proofs.blocks.counts.Goals as goal
 
-pub returns-then-syncs-ne0 : goal.returns-then-syncs-ne0
-unfolding counts_of counted_with
-returns-then-syncs-ne0 c =
-    rw (sym (number-said _ _ c.syncs-syncs.ensures), ne_eqb _ 0 c.if-syncs-ne0.true) c.refused.ensures
+pub returns-in_err-wrong : goal.returns-in_err-wrong
+unfolding counts_of
+returns-in_err-wrong c =
+    let told : c.from_residual.result ≡ Err c.in_err-wrong.field-0.0 = search rules in
+    rw (told, sym c.syncs.ensures ∙ c.in_err-wrong.was)
 
 pub all_marks-requires : goal.all_marks-requires
-all_marks-requires c = sync-long _ (sym (number-said _ _ c.syncs-syncs.ensures) ∙ c.if-syncs-ne0.false)
+all_marks-requires c = (syncs-known c.args.bytes.now c.in_ok-wrong.wrong (sym c.syncs.ensures ∙ c.in_ok-wrong.was)).0
 
 pub returns : goal.returns
 unfolding counts_of
 returns c =
     let sf = c.args.bytes.now in
-    let none = c.if-syncs-ne0.false in
-    c.gathered.ensures
-    ∙ ap₂ gathered_from (wrong-said sf _ c.syncs-syncs.ensures none) c.all_marks.ensures
-    ∙ gathered-counts ordinary sf
-    ∙ ap (λ (n : ℕ). counted_with ordinary n sf) (sym none ∙ number-said sf _ c.syncs-syncs.ensures)
+    let wrong = c.in_ok-wrong.wrong in
+    c.gathered.ensures ∙ ap (gathered_from wrong) c.all_marks.ensures ∙ gathered-counts ordinary sf wrong
+    ∙ ap (λ (s : Result ℕ Refusal). counted_with ordinary s sf) (sym c.in_ok-wrong.was ∙ c.syncs.ensures)

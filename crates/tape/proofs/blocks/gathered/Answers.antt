@@ -5,8 +5,7 @@ use Rattle.tape.proofs.blocks.gathered.Goals as goal
 
 pub returns-then-not-all_below : goal.returns-then-not-all_below
 unfolding gathered_from
-returns-then-not-all_below c =
-    rw (sym c.kinds_of-kinds.ensures, sym c.all_below.ensures ∙ c.if-not-all_below.true) c.refused.ensures
+returns-then-not-all_below c = rw (sym c.kinds_of-kinds.ensures, sym c.all_below.ensures ∙ c.if-not-all_below.true)
 
 pub returns : goal.returns
 unfolding gathered_from

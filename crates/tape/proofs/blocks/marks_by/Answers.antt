@@ -7,7 +7,7 @@ use Rattle.bits.specs.Table.{tabulate}
 use Rattle.bits.proofs.Table.{tab-more, tab-done}
 use Rattle.reading.specs.Reading.{ordinary, is_radius}
 use Rattle.tape.specs.Tape.{block_mark, in_eights}
-use Rattle.tape.specs.declared.blocks.Quad.{Quad}
+use Rattle.words.specs.declared.Told.{Told}
 use Rattle.tape.proofs.Quads.{quad-true, quad-mark}
 use borrow.Author.Rules.{rules}
 use Rattle.tape.proofs.blocks.marks_by.Goals as goal
@@ -24,7 +24,7 @@ pub loop-n-preserved : goal.loop-n-preserved
 loop-n-preserved c =
     let l = c.loop-n in
     let sf = c.args.sf.now in
-    let mark = ap (λ (q : Quad). q.mark) (c.quad_at-block.ensures ∙ quad-true _ _ _ _ _ c.requires.tables ordinary chosen sf (l.n / 8) (l.n % 8)) ∙ quad-mark ordinary sf (l.n / 8) (l.n % 8) (omega arith) (omega arith) in
+    let mark = ap (λ (t : Told). t.mark) (c.quad_at-block.ensures ∙ quad-true _ c.requires.tables ordinary chosen sf (l.n / 8) (l.n % 8)) ∙ quad-mark ordinary sf (l.n / 8) (l.n % 8) (omega arith) (omega arith) in
     (search rules, search rules, tab-more (in_eights (block_mark ordinary sf)) l.out l.n _ (omega arith) l.invariant.2 mark)
 
 pub returns : goal.returns

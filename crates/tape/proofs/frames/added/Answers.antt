@@ -15,14 +15,14 @@ loop-f-init c = (search rules, (λ k l. omega arith), refl, search rules)
 pub returns-then-here-gt-MOST_WRONG : goal.returns-then-here-gt-MOST_WRONG
 unfolding syncs_added
 returns-then-here-gt-MOST_WRONG c =
-    rw (not-sync c.args.sf.now c.loop-f.f (omega arith) (omega (arith, c.wrong_at-here.ensures))) refl
+    rw (not-sync c.args.sf.now c.loop-f.f (omega arith) (omega (arith, c.wrong_at-here.ensures)))
 
 pub loop-f-preserved : goal.loop-f-preserved
 loop-f-preserved c =
     let here = c.wrong_at-here.ensures in (
       search rules,
       below_more _ _ c.loop-f.invariant.1 (omega (arith, here)),
-      ap₂ (λ (a b : ℕ). a + b) c.loop-f.invariant.2 here ∙ sym (sum_more c.loop-f.f (wrong_at c.args.sf.now)),
+      ap₂ (λ (a b : ℕ). a + b) c.loop-f.invariant.2 (c.from-wrong.ensures ∙ here) ∙ sym (sum_more c.loop-f.f (wrong_at c.args.sf.now)),
       omega (arith, c.loop-f.invariant.3),
     )
 
@@ -31,4 +31,4 @@ unfolding syncs_added wrong_bits
 returns c =
     let sf = c.args.sf.now in
     let all : c.loop-f.f ≡ 128 = omega arith in
-    rw (all-sync sf (λ k l. c.loop-f.invariant.1 k (omega arith)), c.loop-f.invariant.2, all) refl
+    rw (all-sync sf (λ k l. c.loop-f.invariant.1 k (omega arith)), c.loop-f.invariant.2, all)
