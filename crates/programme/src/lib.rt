@@ -2,8 +2,7 @@
 #![tactic(auto)]
 
 ghost use Rattle.std.specs.Prelude.{◌≡◌};
-ghost use Rattle.bits.specs.Bits.{ones};
-ghost use Rattle.programme.specs.Byte.{eight, read_byte, write_byte, read_answer, write_answer};
+ghost use Rattle.programme.specs.Byte.{read_byte, write_byte, read_answer, write_answer};
 ghost use Rattle.programme.specs.Names.{name_for};
 
 use bits::Refusal;
@@ -35,27 +34,12 @@ const NAMES: [[u8; 8]; 16] = [
     *b"SPEZ MUS",
 ];
 
-// How many of a byte's bits are 1.
-fn ones_of(byte: u8) -> u8
-    ensures { result ≡ ones (eight byte) }
-{
-    let mut count: u8 = 0;
-    let mut rest = byte;
-    let mut left: u8 = 8;
-    while 0 < left {
-        count += rest % 2;
-        rest = rest / 2;
-        left -= 1;
-    }
-    count
-}
-
 // Refused with number 6 where the number of ones is odd.
 #[tactic(auto, unfolding(crate::specs::Byte::read_byte, crate::specs::Byte::even))]
 pub fn read(byte: u8) -> Result<Programme, Refusal>
     ensures { read_answer result ≡ read_byte byte }
 {
-    if ones_of(byte) % 2 != 0 {
+    if byte.count_ones() % 2 != 0 {
         return Err(Refusal::Parity);
     }
     Ok(Programme {
@@ -74,7 +58,7 @@ pub fn write(kind: u8, music: u8, mode: u8) -> Result<u8, Refusal>
         return Err(Refusal::Range);
     }
     let seven = kind * 16 + music * 8 + mode * 2;
-    Ok(seven + ones_of(seven) % 2)
+    Ok(seven + (seven.count_ones() % 2) as u8)
 }
 
 // Refused with number 2 for a type over 15.
