@@ -4,13 +4,13 @@
 --     factor-largest               no larger one up to 7 fits them all
 --     factor-only                  nothing else is such a number
 --     largest-..                   the same of any test; then what a search from above finds at each step
---     test-max                     of two bounds the larger decides
+--     both-below                   of two numbers the larger decides
 -- Assumes nothing.
-use mathlib.Core.Path.{◌≡◌, refl, sym, ◌∙◌}
+use mathlib.Core.Path.{◌≡◌, refl, sym, ap, ◌∙◌}
 use mathlib.Core.Logic.{⊎_elim}
-use mathlib.Core.Bool.{Bool, true, false, true≢false, ◌&&◌, and-false}
+use mathlib.Core.Bool.{Bool, true, false, true≢false, ◌&&◌, and-false, and_comm}
 use mathlib.Core.List.{List}
-use Prim.Native.Nat.{ℕ, zero, suc, ◌-◌, ◌<◌, ◌≤◌, zero-le}
+use Prim.Native.Nat.{ℕ, zero, suc, max, ◌-◌, ◌<◌, ◌≤◌, zero-le}
 use native.Mathlib.Nat.{not-suc-le-zero, le_of_suc-le-suc, eq-or-lt_of_le, le_antisymm, lt_irrefl, lt_of_lt_of_le, lt_of_le_of_lt}
 use native.Mathlib.Omega.{arith}
 use lib.Dec.{ltb}
@@ -57,11 +57,20 @@ unfolding largest
 largest-ext zero P Q e = refl
 largest-ext (suc n) P Q e = rw (e (suc n), largest-ext n P Q e)
 
-pub test-max : (m n h : ℕ) → m ≤ n → (ltb m h && ltb n h) ≡ ltb n h
+test-max : (m n h : ℕ) → m ≤ n → (ltb m h && ltb n h) ≡ ltb n h
 test-max m n h l =
     either_way (ltb n h)
     (λ t. let k : m < h = omega (arith, ltb-true n h t) in rw (lt-ltb m h k))
     (λ t. rw t (and-false (ltb m h)))
+
+pub both-below : (m n h : ℕ) → (ltb m h && ltb n h) ≡ ltb (max m n) h
+both-below m n h =
+    either_way (ltb m n)
+    (λ t. let l : m ≤ n = omega (arith, ltb-true m n t) in let e : n ≡ max m n = omega arith in test-max m n h l ∙ ap (λ (k : ℕ). ltb k h) e)
+    (λ t.
+    let l : n ≤ m = ltb-false m n t in
+    let e : m ≡ max m n = omega arith in
+    and_comm (ltb m h) (ltb n h) ∙ test-max n m h l ∙ ap (λ (k : ℕ). ltb k h) e)
 
 -- ---- the factor
 module _ (xs : List ℤ) where

@@ -59,13 +59,8 @@ fn farthest(samples: &[i16]) -> u16
     ensures { (s : ℕ) → all_fit s samples.now ≡ ltb result (2 ^ (15 - s)) }
 {
     let mut most: u16 = 0;
-    let mut i: usize = 0;
-    while i < samples.len() {
-        let far = reach(samples[i]);
-        if most < far {
-            most = far;
-        }
-        i += 1;
+    for &sample in samples {
+        most = most.max(reach(sample));
     }
     most
 }
@@ -74,12 +69,10 @@ fn farthest(samples: &[i16]) -> u16
 fn factor_for(most: u16) -> u8
     ensures { result ≡ largest 7 (λ s. ltb most (2 ^ (15 - s))) }
 {
-    let mut s: u8 = 7;
-    while 0 < s {
+    for s in (1..8u8).rev() {
         if most < 32768u16 >> s {
             return s;
         }
-        s -= 1;
     }
     0
 }

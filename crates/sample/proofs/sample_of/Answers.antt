@@ -1,16 +1,12 @@
 -- `sample::sample_of` meets its contract: four times the code, over 2^factor, is the sample at every factor. Assumes nothing.
-use mathlib.Core.Path.{◌≡◌, ap, ◌∙◌}
-use mathlib.Core.Bool.{true}
-use Prim.Native.Nat.{◌^◌, ◌≤◌}
-use native.Mathlib.Omega.{arith}
+use Prim.Native.Nat.{◌^◌}
 use lib.IntN.{pos, ◌*ℤ◌}
-use lib.Signed.{mag, mag_shr, shr_z}
+use lib.Signed.{mag_shr, shr_z}
 use mir.Syntax.{w16}
-use mir.Val.{SFits, to_z, of_z}
 use mir.ValLaws.{to_z-of_z, sfits_le}
-use borrow.Author.Tests.{lt-ltb, le-ltb, le-leb, lt-leb}
-use Rattle.sample.specs.Sample.{is_code, sample_answer}
-use Rattle.sample.proofs.Sample.{code-mag, code-room, shrunk}
+use borrow.Author.Tests.{le-leb, lt-leb}
+use Rattle.sample.specs.Sample.{sample_answer}
+use Rattle.sample.proofs.Sample.{reached, reach-code, reach-none, room-code, shrunk}
 use Rattle.sample.proofs.sample_of.Goals as goal
 
 pub returns-then-factor-gt7 : goal.returns-then-factor-gt7
@@ -20,31 +16,31 @@ returns-then-factor-gt7 c = rw (lt-leb c.args.factor 7 c.if-factor-gt7.true)
 pub returns-then-reach-ge8192 : goal.returns-then-reach-ge8192
 unfolding sample_answer
 returns-then-reach-ge8192 c =
-    let read : to_z w16 (of_z w16 c.args.code) ≡ c.args.code = to_z-of_z w16 c.args.code c.ranges.code in
-    let reached : c.reach.result ≡ mag c.args.code = c.reach.ensures ∙ ap mag read in
-    let far : 8192 ≤ mag c.args.code = omega (arith, reached) in
-    rw (le-leb c.args.factor 7 c.if-factor-gt7.false, code-mag c.args.code, le-ltb (mag c.args.code) 8192 far)
+    let x = c.args.code in
+    rw (
+      le-leb c.args.factor 7 c.if-factor-gt7.false,
+      reach-none x c.reach.result (reached x c.reach.result c.ranges.code c.reach.ensures) c.if-reach-ge8192.true,
+    )
 
 pub overflow_mul-four : goal.overflow_mul-four
 overflow_mul-four c =
-    let read : to_z w16 (of_z w16 c.args.code) ≡ c.args.code = to_z-of_z w16 c.args.code c.ranges.code in
-    let reached : c.reach.result ≡ mag c.args.code = c.reach.ensures ∙ ap mag read in
-    let inside : is_code c.args.code ≡ true = code-mag c.args.code ∙ lt-ltb (mag c.args.code) 8192 (omega (arith, reached)) in
-    let room : SFits w16 (c.args.code *ℤ pos 4) = record { sfits = code-room c.args.code inside } in rw read room
+    let x = c.args.code in
+    let inside = reach-code x c.reach.result (reached x c.reach.result c.ranges.code c.reach.ensures) c.if-reach-ge8192.false in
+    rw (to_z-of_z w16 x c.ranges.code) (room-code x inside)
 
 pub returns : goal.returns
 unfolding sample_answer
 returns c =
-    let read : to_z w16 (of_z w16 c.args.code) ≡ c.args.code = to_z-of_z w16 c.args.code c.ranges.code in
-    let reached : c.reach.result ≡ mag c.args.code = c.reach.ensures ∙ ap mag read in
-    let inside : is_code c.args.code ≡ true = code-mag c.args.code ∙ lt-ltb (mag c.args.code) 8192 (omega (arith, reached)) in
-    let room : SFits w16 (c.args.code *ℤ pos 4) = record { sfits = code-room c.args.code inside } in
-    let four = c.args.code *ℤ pos 4 in
+    let x = c.args.code in
+    let f = c.args.factor in
+    let inside = reach-code x c.reach.result (reached x c.reach.result c.ranges.code c.reach.ensures) c.if-reach-ge8192.false in
+    let four = x *ℤ pos 4 in
+    let room = room-code x inside in
     rw (
-      read,
+      to_z-of_z w16 x c.ranges.code,
       to_z-of_z w16 four room,
-      to_z-of_z w16 (shr_z four (2 ^ c.args.factor)) (sfits_le (mag_shr four (2 ^ c.args.factor)) room),
-      shrunk c.args.code c.args.factor,
-      le-leb c.args.factor 7 c.if-factor-gt7.false,
+      to_z-of_z w16 (shr_z four (2 ^ f)) (sfits_le (mag_shr four (2 ^ f)) room),
+      shrunk x f,
+      le-leb f 7 c.if-factor-gt7.false,
       inside,
     )
