@@ -7,10 +7,11 @@ ghost use Rattle.bits.specs.Table.{tabulate};
 ghost use Rattle.service_group.specs.Places.{in_order};
 ghost use Rattle.service_group.specs.Six.{channel_byte, group_after, label_byte, stage_after, is_ready};
 
+#[tactic(auto, unfolding(crate::specs::Places::in_order))]
 fn in_order(at: u8, place: usize, was: u8, comes: u8) -> u8
     ensures { result ≡ in_order at place was comes }
 {
-    let here = at as usize;
+    let here = usize::from(at);
     if place < here {
         return was;
     }
@@ -20,6 +21,7 @@ fn in_order(at: u8, place: usize, was: u8, comes: u8) -> u8
     0
 }
 
+#[tactic(auto, unfolding(crate::specs::Six::channel_byte))]
 fn channel_byte(position: u8, group: &[u8; 32], six: &[u8; 6], i: usize) -> u8
     requires { i < 32 }
     ensures { result ≡ channel_byte position group.now six.now i }
@@ -34,6 +36,7 @@ pub fn gather(position: u8, group: [u8; 32], six: [u8; 6]) -> [u8; 32]
     std::array::from_fn(|i| channel_byte(position, &group, &six, i))
 }
 
+#[tactic(auto, unfolding(crate::specs::Six::label_byte))]
 fn label_byte(stage: u8, labels: &[u8; 256], characters: &[u8; 32], i: usize) -> u8
     requires { i < 256 }
     ensures { result ≡ label_byte stage labels.now characters.now i }
@@ -45,11 +48,7 @@ fn label_byte(stage: u8, labels: &[u8; 256], characters: &[u8; 32], i: usize) ->
 pub fn write_labels(stage: u8, labels: [u8; 256], characters: [u8; 32]) -> [u8; 256]
     ensures { result ≡ tabulate 256 (label_byte stage labels characters) }
 {
-    let mut out = [0u8; 256];
-    for i in 0..256usize {
-        out[i] = label_byte(stage, &labels, &characters, i);
-    }
-    out
+    std::array::from_fn(|i| label_byte(stage, &labels, &characters, i))
 }
 
 #[tactic(auto, unfolding(crate::specs::Six::stage_after))]
@@ -75,8 +74,5 @@ pub fn stage_after(position: u8, stage: u8, group: [u8; 32]) -> u8
 pub fn ready(position: u8, stage: u8) -> bool
     ensures { result ≡ is_ready position stage }
 {
-    if position == 8 {
-        return stage == 8;
-    }
-    false
+    position == 8 && stage == 8
 }

@@ -1,7 +1,7 @@
 -- `service_group::gather` meets its contract. Assumes nothing.
-use Rattle.std.proofs.Common.{rules, ◌≡◌, ◌<◌, ℕ, slice_index_or, length}
+use Rattle.std.proofs.Common.{rules}
 use Rattle.bits.proofs.Made.{made}
-use Rattle.service_group.specs.Six.{channel_byte, group_after}
+use Rattle.service_group.specs.Six.{group_after}
 use Rattle.service_group.proofs.gather.Goals as goal
 
 pub returns : goal.returns

@@ -1,18 +1,7 @@
--- `service_group::write_labels` meets its contract: the characters so far are the first of the table. Assumes nothing.
-use mathlib.Core.Path.{refl}
-use native.Mathlib.Omega.{arith}
-use mathlib.Core.List.{[]}
-use lib.ListN.{length-set}
-use Rattle.bits.proofs.Table.{tab-more, tab-none, tab-done}
-use borrow.Author.Rules.{rules}
+-- `service_group::write_labels` meets its contract. Assumes nothing.
+use Rattle.std.proofs.Common.{rules}
+use Rattle.bits.proofs.Made.{made}
 use Rattle.service_group.proofs.write_labels.Goals as goal
 
-pub loop-i-init : goal.loop-i-init
-loop-i-init c = (search rules, refl, tab-none _ [])
-
-pub loop-i-preserved : goal.loop-i-preserved
-loop-i-preserved c =
-    (search rules, rw length-set c.loop-i.invariant.1, tab-more _ _ _ _ (omega arith) c.loop-i.invariant.2 c.label_byte.ensures)
-
 pub returns : goal.returns
-returns c = tab-done _ _ 256 c.loop-i.i c.loop-i.invariant.1 (omega arith) (omega arith) c.loop-i.invariant.2
+returns c = made _ _ _ 256 _ 0 c.from_fn.ensures.items (λ i y q h k. search rules)
