@@ -19,7 +19,7 @@ pub fn byte_of(bytes: &[u8], i: usize) -> u8
 pub fn wide(byte: u8) -> u32
     ensures { (result ≡ byte) × (result < 256) }
 {
-    byte as u32
+    u32::from(byte)
 }
 
 // Bit k, counted from 0; 0 past the end.
@@ -34,13 +34,11 @@ fn bit_behind(bits: &[u8], at: usize, j: usize) -> u8
     ensures { result ≡ get_or bits.now (at + j) 0 % 2 }
 {
     let n = bits.len();
-    if n <= at {
-        return 0;
+    if at < n && j < n - at {
+        bits[at + j] % 2
+    } else {
+        0
     }
-    if n - at <= j {
-        return 0;
-    }
-    bits[at + j] % 2
 }
 
 // The byte that eight bits make, from a place of a list of bits on.
@@ -58,12 +56,7 @@ pub fn byte_from(bits: &[u8], at: usize) -> u8
 pub fn all_below(list: &[u8], bound: u8) -> bool
     ensures { result ≡ all_below bound list.now }
 {
-    for &x in list {
-        if bound <= x {
-            return false;
-        }
-    }
-    true
+    list.iter().all(|&x| x < bound)
 }
 
 // Whether each number of a list is 0 or 1.

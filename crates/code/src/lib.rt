@@ -11,10 +11,12 @@ ghost use Rattle.eights.specs.Eights.{remainders_of};
 ghost use Rattle.code.specs.Generators.{block_generator, scale_generator};
 
 use byte_table::REMAINDERS;
+use remainder::Generator;
 
-const SCALE_DEGREE: u32 = 8;
-
-const SCALE_GENERATOR: u32 = 0b1101_0001;
+const SCALE: Generator = Generator {
+    coefficients: 0b1101_0001,
+    degree: 8,
+};
 
 // The table by which a block's bits are divided (crate `eights`).
 pub fn remainders() -> [u32; 256]
@@ -27,21 +29,19 @@ pub fn remainders() -> [u32; 256]
 pub fn block_check(bits: &[u8]) -> u32
     ensures { result ≡ value 2 (check_bits block_generator bits.now) }
 {
-    let table = remainders();
-    eights::check_of(&table, bits)
+    eights::check_of(&remainders(), bits)
 }
 
 // What the 63 protected bits of a block leave: 0 for a code word.
 pub fn block_remainder(bits: &[u8]) -> u32
     ensures { result ≡ value 2 (remainder block_generator bits.now) }
 {
-    let table = remainders();
-    eights::of_bits(&table, bits)
+    eights::of_bits(&remainders(), bits)
 }
 
 // The check bits of a scale word's six bits, the first of them the highest digit.
 pub fn scale_check(bits: &[u8]) -> u32
     ensures { result ≡ value 2 (check_bits scale_generator bits.now) }
 {
-    remainder::check_of(bits, SCALE_GENERATOR, SCALE_DEGREE)
+    SCALE.check_of(bits)
 }

@@ -6,18 +6,12 @@
 ghost use Rattle.std.specs.Prelude.{◌≡◌, ◌<◌};
 ghost use Rattle.eights.specs.Eights.{step_by, word_by, row_by, check_by};
 
-fn wide(x: u8) -> u32
-    ensures { (result ≡ x) × (result < 256) }
-{
-    x as u32
-}
-
 // A step of the division for eight bits. The register holds the remainder so far, 19 binary digits: its upper eight choose what is taken off.
 fn next(table: &[u32; 256], reg: u32, byte: u8) -> u32
     ensures { result ≡ step_by 11 table.now reg byte }
 {
     let upper = (reg / 2048 % 256) as usize;
-    (reg % 2048 * 256 + wide(byte)) ^ table[upper]
+    (reg % 2048 * 256 + u32::from(byte)) ^ table[upper]
 }
 
 // The remainder of the 64 binary digits of a number. Its upper 16 are their own remainder.
@@ -25,10 +19,8 @@ pub fn of_word(table: &[u32; 256], word: u64) -> u32
     ensures { result ≡ word_by table.now word }
 {
     let mut reg = (word >> 48) as u32;
-    let mut i: u32 = 0;
-    while i < 6 {
+    for i in 0..6u32 {
         reg = next(table, reg, ((word >> (40 - 8 * i)) % 256) as u8);
-        i += 1;
     }
     reg
 }
@@ -38,24 +30,16 @@ pub fn of_bits(table: &[u32; 256], bits: &[u8]) -> u32
     ensures { result ≡ row_by table.now bits.now }
 {
     let over = bits.len() % 8;
-    let mut reg = wide(bits::byte_from(bits, 0)) >> (8 - over);
-    let mut i: usize = 0;
-    while i < bits.len() / 8 {
+    let mut reg = u32::from(bits::byte_from(bits, 0)) >> (8 - over);
+    for i in 0..bits.len() / 8 {
         reg = next(table, reg, bits::byte_from(bits, over + 8 * i));
-        i += 1;
     }
     reg
-}
-
-fn long(x: u32) -> u64
-    ensures { (result ≡ x) × (result < 4294967296) }
-{
-    x as u64
 }
 
 // The check bits of a list of bits: the remainder of its remainder with 19 zeros behind it.
 pub fn check_of(table: &[u32; 256], bits: &[u8]) -> u32
     ensures { result ≡ check_by table.now bits.now }
 {
-    of_word(table, long(of_bits(table, bits)) * 524288)
+    of_word(table, u64::from(of_bits(table, bits)) * 524288)
 }

@@ -30,13 +30,11 @@ pub enum Places {
 }
 
 // Whether a block may be read at a radius: at 2, or at 3 (document 02, P9).
+#[tactic(auto, unfolding(crate::specs::Reading::is_radius))]
 pub fn is_radius(radius: u8) -> bool
     ensures { result ≡ is_radius radius }
 {
-    if radius == 2 {
-        return true;
-    }
-    radius == 3
+    radius == 2 || radius == 3
 }
 
 // What each place alone leaves.

@@ -1,41 +1,27 @@
--- `bits::all_below` meets its contract: all passed so far are below the bound. Assumes nothing.
-use mathlib.Core.Path.{◌≡◌, refl, sym, ap, ◌∙◌}
+-- `bits::all_below` meets its contract. Assumes nothing.
+use mathlib.Core.Path.{◌≡◌, sym}
+use mathlib.Core.Bool.{Bool, true, false}
 use mathlib.Core.List.{List}
-use Prim.Native.Nat.{ℕ}
+use Prim.Native.Nat.{ℕ, ◌≤◌, ◌<◌}
 use native.Mathlib.Omega.{arith}
-use borrow.Author.Tests.{lt-ltb, le-ltb}
+use borrow.Author.Tests.{tests, lt-ltb, le-ltb}
 use lib.Dec.{ltb}
-use lib.ListN.{take, get_or}
-use lib.Seq.{take_all}
-use Rattle.bits.specs.Table.{every}
+use lib.ListN.{length}
+use Rattle.std.proofs.Common.{rules}
+use Rattle.std.proofs.lemmas.Iterator.{cases_from_all, YieldsList-from_slice}
+use Rattle.std.specs.Bool.{MatchBool}
+use Rattle.std.specs.List.{AllWithin, HoldsAt}
 use Rattle.bits.specs.Bits.{all_below}
-use Rattle.bits.proofs.Every.{every_take, every-fails}
-use borrow.Author.Rules.{rules}
+use Rattle.bits.proofs.Every.{each-every, every-fails}
 use Rattle.bits.proofs.all_below.Goals as goal
 
-pub loop-x-init : goal.loop-x-init
-unfolding every
-loop-x-init c = (search rules, refl)
-
-pub returns-then-bound-x : goal.returns-then-bound-x
+by-case : (b : ℕ) (l : List ℕ) (r : Bool)
+    → MatchBool r (AllWithin (λ x. x < b) l 0 (length l)) ((k : ℕ) × (k < length l) × HoldsAt (λ x. b ≤ x) l k) → r ≡ all_below b l
 unfolding all_below
-returns-then-bound-x c =
-    let l : List ℕ = c.args.list.now in
-    let b : ℕ = c.args.bound in
-    let i : ℕ = c.loop-x.x-index in
-    sym (every-fails (λ x. ltb x b) l i 0 (omega arith) (le-ltb (get_or l i 0) b (omega arith)))
-
-pub loop-x-preserved : goal.loop-x-preserved
-loop-x-preserved c =
-    let l : List ℕ = c.args.list.now in
-    let b : ℕ = c.args.bound in
-    let i : ℕ = c.loop-x.x-index in
-    (search rules, rw (every_take (λ x. ltb x b) l i 0 (omega arith), c.loop-x.invariant.1, lt-ltb (get_or l i 0) b (omega arith)))
+by-case b l true h = sym (each-every (λ x. ltb x b) l 0 (λ i w. lt-ltb _ b (h i 0 (omega arith) w)))
+by-case b l false (k, w, h) = sym (every-fails (λ x. ltb x b) l k 0 w (le-ltb _ b (h 0)))
 
 pub returns : goal.returns
-unfolding all_below
 returns c =
-    let l : List ℕ = c.args.list.now in
-    let b : ℕ = c.args.bound in
-    let all : take c.loop-x.x-index l ≡ l = take_all c.loop-x.x-index l (omega arith) in
-    sym (ap (every (λ x. ltb x b)) (sym all) ∙ c.loop-x.invariant.1)
+    by-case c.args.bound c.args.list.now _
+    (cases_from_all _ _ _ (λ x. x < c.args.bound) (λ x. c.args.bound ≤ x) c.all.ensures.ran (YieldsList-from_slice c.args.list.now (search rules)) (λ x q k. search (rules, tests)) (λ x q k. search (rules, tests)))

@@ -3,8 +3,5 @@ use native.Mathlib.Omega.{arith}
 use Rattle.bits.proofs.Bits.{past_end}
 use Rattle.bits.proofs.bit_behind.Goals as goal
 
-pub returns-then-n-at : goal.returns-then-n-at
-returns-then-n-at c = past_end c.args.bits.now _ (omega arith)
-
-pub returns-then-n-at-2 : goal.returns-then-n-at-2
-returns-then-n-at-2 c = past_end c.args.bits.now _ (omega arith)
+pub returns-else-at-n : goal.returns-else-at-n
+returns-else-at-n c = past_end c.args.bits.now _ (omega arith)

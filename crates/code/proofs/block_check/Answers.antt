@@ -11,4 +11,4 @@ use Rattle.code.proofs.block_check.Goals as goal
 pub returns : goal.returns
 returns c =
     let bits = c.args.bits.now in
-    c.check_of.ensures ∙ ap (λ (t : List ℕ). check_by t bits) c.remainders-table.ensures ∙ check-remainder block_generator block_size bits
+    c.check_of.ensures ∙ ap (λ (t : List ℕ). check_by t bits) c.remainders.ensures ∙ check-remainder block_generator block_size bits

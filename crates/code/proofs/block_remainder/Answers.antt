@@ -11,4 +11,4 @@ use Rattle.code.proofs.block_remainder.Goals as goal
 pub returns : goal.returns
 returns c =
     let bits = c.args.bits.now in
-    c.of_bits.ensures ∙ ap (λ (t : List ℕ). row_by t bits) c.remainders-table.ensures ∙ row-remainder block_generator block_size bits
+    c.of_bits.ensures ∙ ap (λ (t : List ℕ). row_by t bits) c.remainders.ensures ∙ row-remainder block_generator block_size bits

@@ -7,4 +7,4 @@ use Rattle.eights.proofs.check_of.Goals as goal
 pub returns : goal.returns
 unfolding check_by
 returns c =
-    c.of_word.ensures ∙ ap (λ (n : ℕ). word_by c.args.table.now (n * 2 ^ 19)) (c.long.ensures.0 ∙ c.of_bits.ensures)
+    c.of_word.ensures ∙ ap (λ (n : ℕ). word_by c.args.table.now (n * 2 ^ 19)) (c.from.ensures ∙ c.of_bits.ensures)

@@ -4,4 +4,4 @@ use Rattle.eights.proofs.next.Goals as goal
 
 pub returns : goal.returns
 unfolding step_by
-returns c = rw c.wide.ensures.0
+returns c = rw c.from.ensures

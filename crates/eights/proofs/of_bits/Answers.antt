@@ -10,7 +10,7 @@ use Rattle.eights.proofs.of_bits.Goals as goal
 pub loop-i-init : goal.loop-i-init
 unfolding rows
 loop-i-init c =
-    (search rules, ap (λ (b : ℕ). b / 2 ^ (8 - length c.args.bits.now % 8)) (c.wide.ensures.0 ∙ c.byte_from.ensures))
+    (search rules, ap (λ (b : ℕ). b / 2 ^ (8 - length c.args.bits.now % 8)) (c.from.ensures ∙ c.byte_from.ensures))
 
 pub loop-i-preserved : goal.loop-i-preserved
 unfolding rows

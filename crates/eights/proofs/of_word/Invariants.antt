@@ -6,6 +6,3 @@ use Rattle.eights.proofs.of_word.Given as goal
 
 abbrev pub invariant-loop-i : goal.invariant-loop-i
 invariant-loop-i l = (l.i ≤ 6) × (l.reg ≡ eights 11 l.table l.i (l.word / 2 ^ (48 - 8 * l.i)))
-
-abbrev pub decreases-loop-i : goal.decreases-loop-i
-decreases-loop-i l = 6 - l.i
