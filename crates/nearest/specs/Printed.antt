@@ -1,7 +1,7 @@
 -- What the documents print of reading scale words (document 01, "Scale words", "Numbers given"; document 02, P4; the word of factors 0, 1 is a bench case).
 --     times3 text       a printed word sent three times
 --     heard bits        what 42 bits read as: the number, and the two factors and the number of places
---     listed r          the number of an answer; the factors and the number of places, where they come; and the word
+--     listed r          the number, the factors, the number of places and the word of an answer; what does not come is 0
 --     behind w text     what 64 extra bits read as, 42 bits and a printed information word: the number, the factors, the places, the word
 --     printed_rows       THE TABLE: wrong bits, a tie, the information word, refusals
 use Rattle.std.specs.Prelude.{List, [], ◌∷◌, ◌++◌, ℕ}
@@ -26,10 +26,10 @@ heard bits = answered (scale_answer bits)
 
 abbrev with_word : ℕ → Option Factors → List ℕ
 with_word word (Some f) = 0 ∷ f.left ∷ f.right ∷ f.places ∷ word ∷ []
-with_word word None = 5 ∷ word ∷ []
+with_word word None = 5 ∷ 0 ∷ 0 ∷ 0 ∷ word ∷ []
 
 abbrev pub listed : Result Extra Refusal → List ℕ
-listed (Err r) = number_of r ∷ []
+listed (Err r) = number_of r ∷ 0 ∷ 0 ∷ 0 ∷ 0 ∷ []
 listed (Ok e) = with_word e.word e.factors
 
 abbrev pub behind : List ℕ → String → List ℕ
@@ -52,6 +52,6 @@ printed_rows =
     -- bits 43 to 64, the first of them the highest; the word comes with number 5 too
     ∷ (behind (times3 "00000111010001") "0000000000000000000001" prints 0 ∷ 0 ∷ 1 ∷ 0 ∷ 1 ∷ [])
     ∷ (behind (times3 "00000111010001") "1000000000000000000000" prints 0 ∷ 0 ∷ 1 ∷ 0 ∷ 2_097_152 ∷ [])
-    ∷ (behind (times3 "11010111010001") "1111111111111111111111" prints 5 ∷ 4_194_303 ∷ [])
-    ∷ (behind (times3 "00000111010001") "1111111111111111111112" prints 2 ∷ [])
+    ∷ (behind (times3 "11010111010001") "1111111111111111111111" prints 5 ∷ 0 ∷ 0 ∷ 0 ∷ 4_194_303 ∷ [])
+    ∷ (behind (times3 "00000111010001") "1111111111111111111112" prints 2 ∷ 0 ∷ 0 ∷ 0 ∷ 0 ∷ [])
     ∷ []

@@ -1,17 +1,25 @@
 -- What document 01 prints of programme bytes and names ("Service groups", "Numbers given").
---     named t           what looking type t up answers: the number, and the letters by their codes
+--     named t           what looking type t up answers: the number, and the letters by their codes, 0 where none come
 --     heard text        what reading the byte answers whose bits are printed: the number; type, music and mode
 --     printed_rows       THE TABLE: the sixteen names, padded with spaces to eight characters; bytes; refusals
 use Rattle.std.specs.Prelude.{List, [], ◌∷◌, ℕ}
 use Prim.Native.String.{String}
 use Rattle.bits.specs.Digits.{value}
 use Rattle.bits.specs.Printed.{row, hex, answered, Row, ◌prints◌}
-use Rattle.bits.specs.Refused.{told}
+use Rattle.std.specs.declared.result.Result.{Result}
+use Rattle.std.specs.declared.result.Result.TheVariants.{Ok, Err}
+use Rattle.bits.specs.Table.{zeros}
+use Rattle.bits.specs.Refused.{number_of}
+use Rattle.bits.specs.declared.refusal.Refusal.{Refusal}
 use Rattle.programme.specs.Byte.{read_byte, write_byte}
 use Rattle.programme.specs.Names.{name_for}
 
+abbrev letters_told : Result (List ℕ) Refusal → List ℕ
+letters_told (Ok letters) = 0 ∷ letters
+letters_told (Err r) = number_of r ∷ zeros 8
+
 abbrev pub named : ℕ → List ℕ
-named t = answered (told (λ letters. letters) (name_for t))
+named t = letters_told (name_for t)
 
 abbrev pub heard : String → List ℕ
 heard text = answered (read_byte (value 2 (row text)))
@@ -34,7 +42,7 @@ printed_rows =
     ∷ (named 13 prints 0 ∷ hex "4C 2D 4B 4C 41 53 53 20")  -- L-KLASS
     ∷ (named 14 prints 0 ∷ hex "45 2D 4B 4C 41 53 53 20")  -- E-KLASS
     ∷ (named 15 prints 0 ∷ hex "53 50 45 5A 20 4D 55 53")  -- SPEZ MUS
-    ∷ (named 16 prints 2 ∷ [])
+    ∷ (named 16 prints 2 ∷ hex "00 00 00 00 00 00 00 00")
     ∷ (heard "10101010" prints 0 ∷ 10 ∷ 1 ∷ 1 ∷ [])
     -- mono is 01
     ∷ (heard "00000011" prints 0 ∷ 0 ∷ 0 ∷ 1 ∷ [])
