@@ -5,9 +5,9 @@
 --     lost_kinds             of the 64 pairs of a lost superframe
 --     kinds_of q marks       of the 64 pairs of programme q, 1 to 16, out of a superframe's 2,048 marks; refused as its marks are
 use Rattle.std.specs.Prelude.{ℕ, ◌+◌, ◌*◌, ◌-◌, Bool, true, cond, List, eqb, ltb, length, get_or}
-use Rattle.bits.specs.Table.{tabulate, zeros}
+use Rattle.bits.specs.Answer.{Answer, accepted, refused}
+use Rattle.bits.specs.Table.{tabulate}
 use Rattle.wav_sound.specs.Sound.{programme_number}
-use Rattle.kinds.specs.declared.Kinds.{Kinds}
 
 abbrev pub troubling : ℕ → Bool
 troubling m = cond (eqb m 2) true (ltb 4 m)
@@ -21,7 +21,7 @@ pair_kind q marks f = kind_of (get_or marks (32 * f + 2 * (q - 1)) 0) (get_or ma
 unfoldable pub lost_kinds : List ℕ
 lost_kinds = tabulate 64 (λ f. 3)
 
-unfoldable pub kinds_of : ℕ → List ℕ → Kinds
+unfoldable pub kinds_of : ℕ → List ℕ → Answer ℕ
 kinds_of q marks =
     let number = programme_number q (length marks) in
-    record { number = number; kinds = cond (eqb number 0) (tabulate 64 (pair_kind q marks)) (zeros 64) }
+    cond (eqb number 0) (accepted (tabulate 64 (pair_kind q marks))) (refused number)

@@ -6,20 +6,20 @@
 use mathlib.Core.Path.{◌≡◌, refl, sym, ap, ◌∙◌}
 use mathlib.Core.Bool.{true, false}
 use mathlib.Core.List.{List, [], ◌∷◌, ◌++◌, append-nil}
-use Prim.Native.Nat.{ℕ, suc, ◌+◌, ◌-◌, ◌<◌, ◌≤◌}
+use Prim.Native.Nat.{ℕ, suc, ◌+◌, ◌<◌}
 use native.Mathlib.Nat.{add-zero}
 use native.Mathlib.Numerals.{add-one}
 use native.Mathlib.Omega.{arith}
-use borrow.Author.Tests.{ltb-true, ltb-false, lt-ltb, le-ltb}
 use lib.Dec.{ltb, eqb}
 use lib.ListN.{length, get_or, take, drop}
 use lib.Seq.{take-suc}
 use Rattle.bits.proofs.Tests.{either_way}
-use Rattle.text.specs.Page.{Page, put_text}
-use Rattle.text.proofs.Pages.{put_then}
+use Rattle.text.specs.Pens.{Puts}
+use Rattle.text.specs.declared.pen.Pen.{Pen}
+use Rattle.text.proofs.Pens.{puts_as, puts_then}
 use Rattle.label.specs.declared.Stretch.{Stretch}
-use Rattle.stretches.specs.declared.Open.{Open}
-use Rattle.stretches.specs.declared.Open.TheVariants as O
+use Rattle.std.specs.declared.option.Option.{Option}
+use Rattle.std.specs.declared.option.Option.TheVariants.{Some, None}
 use Rattle.stretches.specs.Stretches.{rest, fresh, grow, met, from, opened, counted}
 use Rattle.label.specs.Lines.{lines}
 
@@ -61,47 +61,41 @@ pub same-counts : (s : Stretch) (n k a b c : ℕ) → a ≡ counted s.bad (eqb k
     → record { start = s.start; behind = n + 1; bad = a; none = b; lost = c } ≡ grow s n k
 same-counts s n k a b c p q r = rw (p, q, r) refl
 
-pub near-test : (b n : ℕ) → b ≤ n → ltb (n - b) rest ≡ ltb n (b + rest)
-near-test b n h =
-    either_way (ltb (n - b) rest)
-    (λ e. e ∙ sym (lt-ltb n (b + rest) (omega (arith, ltb-true (n - b) rest e))))
-    (λ e. e ∙ sym (le-ltb n (b + rest) (omega (arith, ltb-false (n - b) rest e))))
-
-module _ (o : Open) (n k : ℕ) where
+module _ (o : Option Stretch) (n k : ℕ) where
   pub quiet : eqb k 0 ≡ true → met (opened o) n k ≡ opened o
   unfolding met
   quiet e = go o
     where
-      go : (o : Open) → met (opened o) n k ≡ opened o
-      go O.Nothing = rw e refl
-      go (O.Going s) = rw e refl
+      go : (o : Option Stretch) → met (opened o) n k ≡ opened o
+      go None = rw e refl
+      go (Some s) = rw e refl
 
-  pub first : eqb k 0 ≡ false → o ≡ O.Nothing → met (opened o) n k ≡ grow (fresh n) n k ∷ []
+  pub first : eqb k 0 ≡ false → o ≡ None → met (opened o) n k ≡ grow (fresh n) n k ∷ []
   unfolding met
   first e p = rw (p, e) refl
 
-  pub on : (s : Stretch) → eqb k 0 ≡ false → o ≡ O.Going s → ltb n (s.behind + rest) ≡ true → met (opened o) n k ≡ grow s n k ∷ []
+  pub on : (s : Stretch) → eqb k 0 ≡ false → o ≡ Some s → ltb n (s.behind + rest) ≡ true → met (opened o) n k ≡ grow s n k ∷ []
   unfolding met
   on s e p t = rw (p, e, t) refl
 
-  pub anew : (s : Stretch) → eqb k 0 ≡ false → o ≡ O.Going s → ltb n (s.behind + rest) ≡ false → met (opened o) n k ≡ grow (fresh n) n k ∷ s ∷ []
+  pub anew : (s : Stretch) → eqb k 0 ≡ false → o ≡ Some s → ltb n (s.behind + rest) ≡ false → met (opened o) n k ≡ grow (fresh n) n k ∷ s ∷ []
   unfolding met
   anew s e p t = rw (p, e, t) refl
 
-pub one-open : (o : Open) → take 1 (opened o) ≡ opened o
-one-open O.Nothing = refl
-one-open (O.Going s) = refl
+pub one-open : (o : Option Stretch) → take 1 (opened o) ≡ opened o
+one-open None = refl
+one-open (Some s) = refl
 
-pub none-ended : (o : Open) → drop 1 (opened o) ≡ []
-none-ended O.Nothing = refl
-none-ended (O.Going s) = refl
+pub none-ended : (o : Option Stretch) → drop 1 (opened o) ≡ []
+none-ended None = refl
+none-ended (Some s) = refl
 
 -- ---- one turn of the loop, where m are the stretches before it
-module _ (o : Open) (n : ℕ) (ks : List ℕ) (i : ℕ) (within : i < length ks) (g : Open) (known : opened g ≡ take 1 (from (opened o) n (take i ks))) where
+module _ (o : Option Stretch) (n : ℕ) (ks : List ℕ) (i : ℕ) (within : i < length ks) (g : Option Stretch) (known : opened g ≡ take 1 (from (opened o) n (take i ks))) where
   abbrev m : List Stretch
   m = from (opened o) n (take i ks)
 
-  pub turn_last : (g' : Open) → opened g' ≡ take 1 (met (opened g) (n + i) (get_or ks i 0)) → opened g' ≡ take 1 (from (opened o) n (take (i + 1) ks))
+  pub turn_last : (g' : Option Stretch) → opened g' ≡ take 1 (met (opened g) (n + i) (get_or ks i 0)) → opened g' ≡ take 1 (from (opened o) n (take (i + 1) ks))
   turn_last g' e =
       e
       ∙ ap (λ (ss : List Stretch). take 1 (met ss (n + i) (get_or ks i 0))) known
@@ -109,11 +103,11 @@ module _ (o : Open) (n : ℕ) (ks : List ℕ) (i : ℕ) (within : i < length ks)
       ∙ ap (take 1) (sym (from_more (opened o) n ks i within))
 
   pub turn_lines :
-      (start p q : Page) → p ≡ put_text start (lines (drop 1 (from (opened o) n (take i ks)))) → q ≡ put_text p (lines (drop 1 (met (opened g) (n + i) (get_or ks i 0)))) →
-      q ≡ put_text start (lines (drop 1 (from (opened o) n (take (i + 1) ks))))
-  turn_lines start p q e f =
-      put_then start p q _ _ e f
-      ∙ ap (put_text start)
+      {a b c : Pen} → Puts a b (lines (drop 1 (from (opened o) n (take i ks)))) → Puts b c (lines (drop 1 (met (opened g) (n + i) (get_or ks i 0)))) →
+      Puts a c (lines (drop 1 (from (opened o) n (take (i + 1) ks))))
+  turn_lines e f =
+      puts_as
       (ap (λ (ss : List Stretch). lines (drop 1 m) ++ lines (drop 1 (met ss (n + i) (get_or ks i 0)))) known
       ∙ sym (met-ended m (n + i) (get_or ks i 0))
       ∙ ap (λ (ss : List Stretch). lines (drop 1 ss)) (sym (from_more (opened o) n ks i within)))
+      (puts_then e f)

@@ -11,8 +11,8 @@ use lib.Dec.{ltb, eqb}
 use lib.ListN.{length, drop}
 use Rattle.bits.proofs.Tests.{either_way}
 use Rattle.label.specs.declared.Stretch.{Stretch}
-use Rattle.stretches.specs.declared.Open.{Open}
-use Rattle.stretches.specs.declared.Open.TheVariants as O
+use Rattle.std.specs.declared.option.Option.{Option}
+use Rattle.std.specs.declared.option.Option.TheVariants.{Some, None}
 use Rattle.stretches.specs.Stretches.{rest, fresh, grow, met, from, opened}
 
 -- a stretch that ends so late that all the pairs are near it
@@ -47,6 +47,6 @@ once-one s n (k ∷ ks) h =
     at_most : {a b : List Stretch} → a ≡ b → length b ≤ 1 → length a ≤ 1
     at_most e l = subst (λ (c : List Stretch). length c ≤ 1) (sym e) l
 
-pub ended-once : (o : Open) (n : ℕ) (ks : List ℕ) → length ks ≤ 3200 → length (drop 1 (from (opened o) n ks)) ≤ 1
-ended-once O.Nothing n ks h = subst (λ (c : List Stretch). length c ≤ 1) (sym (once-none n ks h)) (omega arith)
-ended-once (O.Going s) n ks h = once-one s n ks h
+pub ended-once : (o : Option Stretch) (n : ℕ) (ks : List ℕ) → length ks ≤ 3200 → length (drop 1 (from (opened o) n ks)) ≤ 1
+ended-once None n ks h = subst (λ (c : List Stretch). length c ≤ 1) (sym (once-none n ks h)) (omega arith)
+ended-once (Some s) n ks h = once-one s n ks h

@@ -10,9 +10,9 @@
 --     stretches ks      the stretches of a list of kinds, the last one first
 --     opened o          the stretch that is not yet known to have ended, if there is one
 use Rattle.std.specs.Prelude.{ℕ, suc, ◌+◌, Bool, cond, List, [], ◌∷◌, ltb, eqb}
+use Rattle.std.specs.declared.option.Option.{Option}
+use Rattle.std.specs.declared.option.Option.TheVariants.{Some, None}
 use Rattle.label.specs.declared.Stretch.{Stretch}
-use Rattle.stretches.specs.declared.Open.{Open}
-use Rattle.stretches.specs.declared.Open.TheVariants as O
 
 abbrev pub rest : ℕ
 rest = 3200
@@ -44,6 +44,6 @@ from ss n (k ∷ ks) = from (met ss n k) (suc n) ks
 abbrev pub stretches : List ℕ → List Stretch
 stretches ks = from [] 0 ks
 
-abbrev pub opened : Open → List Stretch
-opened O.Nothing = []
-opened (O.Going s) = s ∷ []
+abbrev pub opened : Option Stretch → List Stretch
+opened None = []
+opened (Some s) = s ∷ []

@@ -22,7 +22,7 @@ put-unique out out' r r' p e e' = let s = same e e' in (ap (λ (q : Page). q.byt
 pub pen-unique : (old new new' : Pen) (s : List ℕ) → Puts old new s → Puts old new' s → (new.out.now ≡ new'.out.now) × (new.to ≡ new'.to)
 pen-unique old new new' s h h' = put-unique _ _ _ _ _ h.told h'.told
 
-answered : (r r' : Result (Unit {0}) Refusal) → number_in r ≡ number_in r' → r ≡ r'
+pub answered : (r r' : Result (Unit {0}) Refusal) → number_in r ≡ number_in r' → r ≡ r'
 answered (Ok x) (Ok y) e = refl
 answered (Ok x) (Err r) e = absurd (not_zero r (sym e))
 answered (Err r) (Ok y) e = absurd (not_zero r e)

@@ -1,40 +1,29 @@
 -- Laws of numbers in bytes, the lowest first, and of sizes.
---     little-two, little-four     two bytes, and four as two and two, as the code puts them
+--     two-little, four-little     two bytes and four, as `to_le_bytes` gives them
 --     length-little               how many bytes
 --     number-two, number-four     they make the number again
 --     length-header               a header has 44 bytes
 --     capped-pairs                a number of pairs that is capped first gives the same sizes
 -- Assumes nothing.
-use mathlib.Core.Path.{◌≡◌, refl, sym, ap, ap₂, ◌∙◌, subst}
-use mathlib.Core.List.{[], ◌∷◌, ◌++◌}
-use Prim.Native.Nat.{ℕ, zero, suc, ◌+◌, ◌*◌, ◌/◌, ◌%◌, ◌<◌, ◌≤◌}
-use native.Mathlib.Nat.{mod-eq_of_lt, div-div-eq-div-mul}
+use mathlib.Core.Path.{◌≡◌, refl, sym, ap, subst}
+use Prim.Native.Nat.{ℕ, zero, suc, ◌+◌, ◌*◌, ◌/◌, ◌<◌, ◌≤◌}
+use native.Mathlib.Nat.{div-div-eq-div-mul}
 use native.Mathlib.Omega.{arith}
-use lib.Arith.{digits_mod}
 use lib.Dec.{eqb}
 use lib.ListN.{length}
 use borrow.Author.Tests.{eqb-true, eqb-false}
+use Rattle.std.specs.Int.{to_le_bytes, w16, w32}
 use Rattle.bits.proofs.Tests.{either_way}
 use Rattle.bits.specs.Letters.{letters}
 use Rattle.wav.specs.Header.{little, number, capped, format, fields, header}
 
-pub little-two : (x : ℕ) → x < 65536 → x % 256 ∷ x / 256 ∷ [] ≡ little 2 x
+pub two-little : (x : ℕ) → to_le_bytes w16 x ≡ little 2 x
 unfolding little
-little-two x h = let e : x / 256 ≡ x / 256 % 256 = omega arith in ap (λ (n : ℕ). x % 256 ∷ n ∷ []) e
+two-little x = refl
 
-pub little-four : (x : ℕ) → little 2 (x % 65536) ++ little 2 (x / 65536) ≡ little 4 x
+pub four-little : (x : ℕ) → to_le_bytes w32 x ≡ little 4 x
 unfolding little
-little-four x =
-    let a : x % 65536 % 256 ≡ x % 256 = omega arith in
-    let y : ℕ = x % 65536 / 256 in
-    let small : y < 256 = omega arith in
-    let whole : x / 256 ≡ x / 65536 * 256 + y = omega arith in
-    let b : y % 256 ≡ x / 256 % 256 = mod-eq_of_lt small ∙ sym (ap (λ (n : ℕ). n % 256) whole ∙ digits_mod (x / 65536) small) in
-    let high : x / 65536 ≡ x / 256 / 256 = sym (div-div-eq-div-mul x 256 256) in
-    let c : x / 65536 % 256 ≡ x / 256 / 256 % 256 = ap (λ (n : ℕ). n % 256) high in
-    let d : x / 65536 / 256 % 256 ≡ x / 256 / 256 / 256 % 256 = ap (λ (n : ℕ). n / 256 % 256) high in
-    ap₂ (λ (m n : ℕ). m ∷ n ∷ (x / 65536 % 256) ∷ (x / 65536 / 256 % 256) ∷ []) a b
-    ∙ ap₂ (λ (m n : ℕ). (x % 256) ∷ (x / 256 % 256) ∷ m ∷ n ∷ []) c d
+four-little x = rw (div-div-eq-div-mul, div-div-eq-div-mul) refl
 
 pub length-little : (n x : ℕ) → length (little n x) ≡ n
 unfolding little

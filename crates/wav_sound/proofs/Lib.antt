@@ -3,3 +3,4 @@ pub mod Entry
 pub mod Reel
 pub mod Unique
 pub mod Printed
+pub mod Samples

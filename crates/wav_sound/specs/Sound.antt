@@ -14,16 +14,27 @@
 use Rattle.std.specs.Prelude.{ℕ, ◌+◌, ◌*◌, ◌-◌, ◌/◌, cond, ◌&&◌, List, [], ◌∷◌, ◌++◌, ltb, leb, eqb, ℤ, pos, length, get_or}
 use Rattle.sample.specs.Pattern.{pattern_of, signed_of}
 use Rattle.text_rows.specs.Turns.{in_turn}
+use denote.MutBor.{MutBor}
 use Rattle.text.specs.Page.{Page}
+use Rattle.text.specs.Pens.{Puts}
+use Rattle.text.specs.declared.pen.Pen.{Pen}
 use Rattle.text.specs.Entry.{Entered, entered_text}
 use Rattle.wav.specs.Header.{little, refused_as}
-
-unfoldable pub sample_bytes : ℤ → List ℕ
-sample_bytes z = little 2 (pattern_of 32768 z)
 
 -- the left and the right channel of programme q in frame f
 abbrev pub left : ℕ → ℕ → ℕ
 left q f = 32 * f + 2 * (q - 1)
+
+-- the two elements of programme q in frame f, as texts one behind the other; d stands for elements that a list lacks
+abbrev pub pair_of : {A : Type 0} → ℕ → List A → (A → List ℕ) → A → ℕ → List ℕ
+pair_of q list g d f = g (get_or list (left q f) d) ++ g (get_or list (left q f + 1) d)
+
+-- each call of a closure, whose calls `post` tells, puts the text of its element
+abbrev pub PutsElement : {A : Type 0} → (MutBor Pen → A → Unit {0} → MutBor Pen → Type 0) → (A → List ℕ) → Type 0
+PutsElement {A} post f = (x : A) (p q : MutBor Pen) → post p x tt q → Puts p.now q.now (f x)
+
+unfoldable pub sample_bytes : ℤ → List ℕ
+sample_bytes z = little 2 (pattern_of 32768 z)
 
 unfoldable pub pair_bytes : ℕ → List ℤ → ℕ → List ℕ
 pair_bytes q samples f = sample_bytes (get_or samples (left q f) (pos 0)) ++ sample_bytes (get_or samples (left q f + 1) (pos 0))

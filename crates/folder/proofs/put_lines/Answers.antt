@@ -1,14 +1,18 @@
 -- `folder::put_lines` meets its contract. Assumes nothing.
+use mathlib.Core.Path.{ap}
+use mathlib.Core.List.{◌∷◌}
+use Prim.Native.Nat.{ℕ}
 use Rattle.bits.specs.Letters.{letters}
-use Rattle.text.proofs.Pages.{put_then}
+use Rattle.text.specs.Digits.{blank, decimal}
+use Rattle.text.proofs.Pens.{puts_as, puts_then}
 use Rattle.folder.specs.Files.{about_text}
 use Rattle.folder.proofs.put_lines.Goals as goal
 
 pub returns : goal.returns
 unfolding about_text letters
 returns c =
-    put_then _ _ _ _ _ c.put_all-first.ensures
-    (put_then _ _ _ _ _ c.put_all-name.ensures
-    (put_then _ _ _ _ _ c.put_all-second.ensures
-    (put_then _ _ _ _ _ c.put_next-number.ensures
-    (put_then _ _ _ _ _ c.put_all-third.ensures (put_then _ _ _ _ _ c.put_all-id.ensures c.put.ensures)))))
+    puts_then c.put_all.ensures
+    (puts_then c.put_all-2.ensures
+    (puts_then c.put_all-3.ensures
+    (puts_then (puts_as (ap (λ (n : ℕ). blank ∷ decimal n) c.from.ensures) c.put_next.ensures)
+    (puts_then c.put_all-4.ensures (puts_then c.put_all-5.ensures c.put.ensures)))))

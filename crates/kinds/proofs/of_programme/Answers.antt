@@ -1,21 +1,27 @@
 -- `kinds::of_programme` meets its contract. Assumes nothing.
-use mathlib.Core.Path.{refl, sym, ◌∙◌}
+use mathlib.Core.Path.{◌≡◌, refl, sym, ap, ◌∙◌}
+use borrow.Author.Rules.{rules}
 use borrow.Author.Tests.{ne_eqb}
-use Rattle.wav_sound.proofs.Entry.{ranged}
+use lib.ListN.{length}
+use Rattle.std.specs.declared.result.Result.TheVariants.{Err}
+use Rattle.bits.specs.Refused.{number_of, number_in}
+use Rattle.bits.proofs.Refused.{not_zero}
+use Rattle.wav_sound.specs.Sound.{programme_number}
+use Rattle.wav_sound.proofs.Entry.{accepts}
 use Rattle.kinds.specs.Kinds.{kinds_of}
 use Rattle.kinds.proofs.of_programme.Goals as goal
 
-pub returns-then-number-ne0 : goal.returns-then-number-ne0
+pub returns-in_err-number_of : goal.returns-in_err-number_of
 unfolding kinds_of
-returns-then-number-ne0 c =
-    let given = c.number_of-number.ensures in
-    rw (given, ne_eqb _ _ (λ e. c.if-number-ne0.true (given ∙ e))) refl
+returns-in_err-number_of c =
+    let refusal = c.in_err-number_of.field-0.0 in
+    let same : c.from_residual.result ≡ Err refusal = search rules in
+    let n : number_of refusal ≡ programme_number c.args.q (length c.args.marks.now) = c.in_err-number_of.ensures in
+    rw (same, ← n, ne_eqb _ _ (not_zero refusal)) refl
 
 pub each_kind-requires : goal.each_kind-requires
-each_kind-requires c = ranged _ _ (sym c.number_of-number.ensures ∙ c.if-number-ne0.false)
+each_kind-requires c = accepts _ _ _ _ c.number_of.ensures c.in_ok-number_of.was
 
 pub returns : goal.returns
 unfolding kinds_of
-returns c =
-    let none = sym c.number_of-number.ensures ∙ c.if-number-ne0.false in
-    rw (none, c.each_kind.ensures) refl
+returns c = rw (sym c.number_of.ensures ∙ ap number_in c.in_ok-number_of.was, c.each_kind.ensures) refl

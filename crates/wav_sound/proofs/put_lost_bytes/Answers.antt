@@ -7,6 +7,6 @@ pub returns-then-bytes-eq1 : goal.returns-then-bytes-eq1
 unfolding lost_bytes lost_marks
 returns-then-bytes-eq1 c = rw (eq-eqb _ _ c.if-bytes-eq1.true) c.put_same.ensures
 
-pub returns : goal.returns
+pub returns-else-bytes-eq1 : goal.returns-else-bytes-eq1
 unfolding lost_bytes lost_sound
-returns c = rw (ne_eqb _ _ c.if-bytes-eq1.false) c.put_same-2.ensures
+returns-else-bytes-eq1 c = rw (ne_eqb _ _ c.if-bytes-eq1.false) c.put_same-else-bytes-eq1.ensures

@@ -1,46 +1,32 @@
--- `wav_sound::put_pairs` meets its contract: after f turns the page holds the first f pairs. Assumes nothing.
-use Prim.Native.Nat.{ℕ, ◌+◌, ◌^◌, ◌<◌}
-use mathlib.Core.Path.{◌≡◌, refl, ap, ◌∙◌}
+-- `wav_sound::put_pairs` meets its contract: after f turns the first f pairs are put. Assumes nothing.
+use mathlib.Core.Path.{◌≡◌, ap, ◌∙◌}
+use Prim.Native.Nat.{ℕ, ◌+◌}
 use native.Mathlib.Omega.{arith}
-use lib.IntN.{ℤ, pos}
-use lib.ListN.{get_or}
-use lib.Signed.{mag}
-use mir.Syntax.{w16}
-use mir.ValLaws.{to_z-of_z}
-use Rattle.text.specs.Page.{page, put_text}
-use Rattle.text.proofs.Pages.{put_then}
-use Rattle.text_rows.specs.Turns.{in_turn}
-use Rattle.text_rows.proofs.Turns.{turn_more}
-use Rattle.wav_sound.specs.Sound.{sample_bytes, pair_bytes, sound_bytes, left}
 use borrow.Author.Rules.{rules}
+use Rattle.std.proofs.lemmas.List.{get_or_default}
+use Rattle.text.proofs.Pens.{puts_as, puts_then}
+use Rattle.text_rows.specs.Turns.{in_turn}
+use Rattle.text_rows.proofs.Turns.{turns_none, turns_more}
+use Rattle.wav_sound.specs.Sound.{left, pair_of}
 use Rattle.wav_sound.proofs.put_pairs.Goals as goal
 
 pub loop-f-init : goal.loop-f-init
-unfolding in_turn put_text
-loop-f-init c = (search rules, search rules, refl)
+loop-f-init g c = (search rules, λ h d puts. turns_none _ _)
 
 pub loop-f-preserved : goal.loop-f-preserved
-unfolding pair_bytes
-loop-f-preserved c =
-    let l = c.loop-f in
+loop-f-preserved g c =
     let start = c.args in
-    let x = get_or start.samples.now (left start.q l.f) (pos 0) in
-    let y = get_or start.samples.now (left start.q l.f + 1) (pos 0) in
-    let first = c.put_sample-left in
-    let small : mag x < 2 ^ 15 = c.put_sample-arg-in-loop-f-1.given in
-    let small' : mag y < 2 ^ 15 = c.put_sample-arg-in-loop-f-3-1.given in (
+    let l = c.loop-f in (
       search rules,
-      search rules,
-      turn_more (page start.out.now start.to) (page l.out l.end) _ (pair_bytes start.q start.samples.now) l.f l.invariant.2
-          (put_then _ _ _ _ _
-          (first.ensures ∙ ap (λ (z : ℤ). put_text (page l.out l.end) (sample_bytes z)) (to_z-of_z w16 x (record { sfits = small })))
-          (c.put_sample-end.ensures ∙ ap (λ (z : ℤ). put_text (page first.new.out first.result) (sample_bytes z)) (to_z-of_z w16 y (record { sfits = small' })))),
+      λ h d puts.
+          turns_more (pair_of start.q start.list.now h d) l.f (l.invariant.1 h d puts)
+          (puts_then
+          (puts_as (ap h (c.index-list-at.is ∙ get_or_default start.list.now (left start.q l.f) _ d (omega arith))) (puts _ _ _ c.put.ensures))
+          (puts_as (ap h (c.index-list-at-in-loop-f.is ∙ get_or_default start.list.now (left start.q l.f + 1) _ d (omega arith))) (puts _ _ _ c.put-in-loop-f.ensures))),
     )
 
 pub returns : goal.returns
-unfolding sound_bytes
-returns c =
-    let l = c.loop-f in
+returns g c h d puts =
     let start = c.args in
-    let all : l.f ≡ 64 = omega arith in
-    l.invariant.2 ∙ ap (λ (n : ℕ). put_text (page start.out.now start.to) (in_turn n (pair_bytes start.q start.samples.now))) all
+    let all : c.loop-f.f ≡ 64 = omega arith in
+    puts_as (ap (λ (n : ℕ). in_turn n (pair_of start.q start.list.now h d)) all) (c.loop-f.invariant.1 h d puts)

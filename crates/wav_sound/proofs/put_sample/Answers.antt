@@ -1,17 +1,15 @@
 -- `wav_sound::put_sample` meets its contract. Assumes nothing.
 use mathlib.Core.Path.{ap, ◌∙◌}
-use Prim.Native.Nat.{ℕ}
-use mir.Syntax.{w16}
+use lib.IntN.{ℤ}
 use mir.ValLaws.{to_z-of_z}
-use Rattle.sample.specs.Pattern.{pattern_of}
-use Rattle.text.specs.Page.{page, put_text}
-use Rattle.wav.specs.Header.{little}
-use Rattle.wav_sound.specs.Sound.{sample_bytes}
+use Rattle.std.specs.Int.{to_le_bytes, cast_unsigned, w16}
+use Rattle.text.proofs.Pens.{puts_as}
+use Rattle.wav_sound.proofs.Samples.{two-bytes}
 use Rattle.wav_sound.proofs.put_sample.Goals as goal
 
 pub returns : goal.returns
-unfolding sample_bytes
 returns c =
-    c.put_two.ensures
-    ∙ ap (λ (n : ℕ). put_text (page c.args.out.now c.args.to) (little 2 n))
-    (c.word.ensures ∙ ap (pattern_of 32768) (to_z-of_z w16 c.args.z c.ranges.z))
+    let z = c.args.z in
+    puts_as
+    (c.to_le_bytes.ensures ∙ ap (λ (y : ℤ). to_le_bytes w16 (cast_unsigned w16 y)) (to_z-of_z w16 z c.ranges.z) ∙ two-bytes z c.ranges.z.sfits)
+    c.put_all.ensures

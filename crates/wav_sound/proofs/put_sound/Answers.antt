@@ -1,33 +1,20 @@
--- `wav_sound::put_sound` meets its contract: the bytes, put where there is no room for them, say where they end. Assumes nothing.
-use mathlib.Core.Path.{sym, ◌∙◌}
-use Rattle.text.specs.Page.{page}
-use Rattle.text.proofs.Entry.{entered-short, entered-whole}
-use Rattle.wav.specs.Header.{refused_as}
-use Rattle.wav_sound.specs.Sound.{sound_bytes}
-use Rattle.wav_sound.proofs.Entry.{ranged, told, refuses}
+-- `wav_sound::put_sound` meets its contract. Assumes nothing.
+use mathlib.Core.Path.{◌≡◌}
 use borrow.Author.Rules.{rules}
+use Rattle.std.specs.declared.result.Result.TheVariants.{Err}
+use Rattle.wav_sound.specs.Sound.{sound_bytes}
+use Rattle.wav_sound.proofs.Entry.{accepts, told, refuses}
 use Rattle.wav_sound.proofs.put_sound.Goals as goal
 
-pub returns-then-number-ne0 : goal.returns-then-number-ne0
-unfolding refused_as
-returns-then-number-ne0 c = refuses _ _ _ _ _ c.number_of-number.ensures c.if-number-ne0.true
+pub returns-in_err-number_of-clause-told : goal.returns-in_err-number_of-clause-told
+returns-in_err-number_of-clause-told c =
+    let same : c.from_residual.result ≡ Err c.in_err-number_of.field-0.0 = search rules in
+    rw same (refuses _ _ _ _ _ c.number_of.ensures _ c.in_err-number_of.was)
 
-pub put_pairs-end-requires : goal.put_pairs-end-requires
-put_pairs-end-requires c = ranged _ _ (sym c.number_of-number.ensures ∙ c.if-number-ne0.false)
-
-pub returns-then-placed-ne0 : goal.returns-then-placed-ne0
-returns-then-placed-ne0 c =
-    let start = c.args in
-    told _ _ (page start.out.now start.to) _ _ c.number_of-number.ensures _ c.if-number-ne0.false
-    (entered-short start.out.now _ (sound_bytes start.q start.samples.now) start.to _ c.put_pairs-end.ensures _ c.within-placed.ensures c.if-placed-ne0.true)
-
-pub put_pairs-requires : goal.put_pairs-requires
-put_pairs-requires c =
-    ranged _ _ (sym c.number_of-number.ensures ∙ c.if-number-ne0.false)
+pub put_whole-requires : goal.put_whole-requires
+put_whole-requires c = let within = accepts _ _ _ _ c.number_of.ensures c.in_ok-number_of.was in search rules
 
 pub returns : goal.returns
 returns c =
-    let start = c.args in
-    told _ _ (page start.out.now start.to) _ _ c.number_of-number.ensures _ c.if-number-ne0.false
-    (entered-whole start.out.now _ (sound_bytes start.q start.samples.now) start.to _ c.put_pairs-end.ensures _ c.within-placed.ensures _ (search rules)
-    c.if-placed-ne0.false c.put_pairs.ensures)
+    let whole = c.put_whole.ensures (sound_bytes c.args.q c.args.samples.now) (search rules) in
+    record { same_buffer = whole.same_buffer; told = told _ _ _ _ _ c.number_of.ensures _ _ c.in_ok-number_of.was whole.told }
