@@ -1,34 +1,25 @@
-// Numbers that look random and are the second program's too (second/README.md, "The superframe of a call"). Each has a seed and a name: a kind,
-// which is what it is for, and a place.
-ghost use Rattle.std.specs.Prelude.{◌<◌};
+// Numbers that look random and are the second program's too (second/README.md, "The superframe of a call"). Each has a seed and a name: what it is for, and
+// a place.
 
-pub(crate) const CODE: usize = 0;
-
-pub(crate) const FACTOR: usize = 65536;
-
-pub(crate) const EXTRA: usize = 131072;
-
-pub(crate) const BLOCK: usize = 196608;
-
-// Of 32 bits, as what goes in.
-fn stirred(x: u64, more: u64) -> u64 {
-    let folded = (x ^ (x / 65536)) % 4_294_967_296;
-    (folded * 1_664_525 + more % 4_294_967_296) % 4_294_967_296
+// What a number is for, by the first of its names: there are 65,536 places in each.
+#[derive(Clone, Copy)]
+pub(crate) enum Use {
+    Code = 0,
+    Factor = 65_536,
+    Extra = 131_072,
+    Block = 196_608,
 }
 
-// Of 16 bits.
-pub(crate) fn number(seed: u64, name: usize) -> u64
-    ensures { result < 65536 }
-{
-    let named = stirred(seed, name as u64);
-    stirred(stirred(named, 1_013_904_223), 1_013_904_223) / 65536 % 65536
+fn stirred(x: u32, more: u32) -> u32 {
+    (x ^ (x >> 16)).wrapping_mul(1_664_525).wrapping_add(more)
+}
+
+pub(crate) fn number(seed: u32, what: Use, place: u16) -> u16 {
+    let named = stirred(seed, what as u32 + u32::from(place));
+    (stirred(stirred(named, 1_013_904_223), 1_013_904_223) >> 16) as u16
 }
 
 // 1 where a bit is turned, of 256 as many as the rate says.
-pub(crate) fn turn(seed: u64, name: usize, rate: u8) -> u8 {
-    if ((number(seed, name) % 256) as u8) < rate {
-        1
-    } else {
-        0
-    }
+pub(crate) fn turn(seed: u32, what: Use, place: u16, rate: u8) -> u8 {
+    u8::from(number(seed, what, place) % 256 < u16::from(rate))
 }

@@ -5,6 +5,7 @@
 mod blocks; // blocks.rt: bwrite, bread, bcodes
 mod draws; // draws.rt: numbers that look random
 mod frames; // frames.rt: fwrite, fread
+mod line_words; // line_words.rt: the words of a line
 mod lines; // lines.rt: a line answered by what it calls
 mod pages; // pages.rt: a line and its answer, as text
 mod programmes; // programmes.rt: pread, pwrite, name
@@ -12,83 +13,71 @@ mod recipes; // recipes.rt: the superframe of a call
 mod reels; // reels.rt: header, run, part
 mod samples; // samples.rt: code, sample, codes, samples, factor
 mod scales; // scales.rt: swrite, sread, sextra
-mod signs; // signs.rt: numbers with a sign, and numbers without
 mod states; // states.rt: fresh, lose, reset, service
 mod sums; // sums.rt: what stands for a long list in an answer
 mod takes; // takes.rt: take
 mod totals; // totals.rt: the words of running totals
-mod line_words; // line_words.rt: the words of a line
+
+ghost use Rattle.std.specs.Prelude.{◌≤◌};
 
 use std::io;
 use std::io::{Read, Write};
 
 // What is held of the line that is being read.
 #[derive(Drop)]
-struct Held {
+struct Line {
+    bytes: [u8; 1185],
     // how many characters
     count: usize,
     // whether earlier ones have gone out already: the line is longer than any call
     spilled: bool,
+    ghost fits: { count ≤ 1185 },
 }
 
-// A line of any length goes through: what does not fit is echoed at once.
-fn hold<W: Write>(out: &mut W, line: &mut [u8], held: Held, byte: u8) -> io::Result<Held> {
-    let count = held.count;
-    if count < line.len() {
-        line[count] = byte;
-        return Ok(Held {
-            count: count + 1,
-            spilled: held.spilled,
-        });
-    }
-    out.write_all(line)?;
-    text::put(line, 0, byte);
-    Ok(Held {
-        count: 1,
-        spilled: true,
-    })
-}
-
-fn finish<W: Write>(out: &mut W, line: &[u8], held: Held) -> io::Result<()> {
-    let count = held.count;
-    if line.len() < count {
-        return Ok(());
-    }
-    if held.spilled {
-        out.write_all(&line[0..count])?;
-        return out.write_all(b" = ?\n");
-    }
-    let page = lines::answer(&line[0..count]);
-    let bytes = page.bytes;
-    write_answer(out, &bytes, page.count)
-}
-
-fn write_answer<W: Write>(out: &mut W, bytes: &[u8], end: usize) -> io::Result<()> {
-    if end <= bytes.len() {
-        return out.write_all(&bytes[0..end]);
-    }
-    Ok(())
-}
-
-fn step<W: Write>(out: &mut W, line: &mut [u8], held: Held, byte: u8) -> io::Result<Held> {
-    if byte == b'\n' {
-        finish(out, line, held)?;
-        return Ok(Held {
+impl Line {
+    fn blank() -> Self {
+        Line {
+            bytes: [0; 1185],
             count: 0,
             spilled: false,
-        });
+        }
     }
-    hold(out, line, held, byte)
-}
 
-fn take<W: Write>(out: &mut W, piece: &[u8], line: &mut [u8], before: Held) -> io::Result<Held> {
-    let mut held = before;
-    let mut i: usize = 0;
-    while i < piece.len() {
-        held = step(out, line, held, piece[i])?;
-        i += 1;
+    // A line of any length goes through: what does not fit is echoed at once.
+    fn hold<W: Write>(&mut self, out: &mut W, byte: u8) -> io::Result<()> {
+        if self.count == self.bytes.len() {
+            out.write_all(&self.bytes)?;
+            self.count = 0;
+            self.spilled = true;
+        }
+        self.bytes[self.count] = byte;
+        self.count += 1;
+        Ok(())
     }
-    Ok(held)
+
+    fn finish<W: Write>(&self, out: &mut W) -> io::Result<()> {
+        let line = &self.bytes[..self.count];
+        if self.spilled {
+            out.write_all(line)?;
+            return out.write_all(b" = ?\n");
+        }
+        let mut room = [0; 2816];
+        let end = lines::answer(line, &mut room);
+        match room.get(..end) {
+            Some(text) => out.write_all(text),
+            None => Ok(()),
+        }
+    }
+
+    fn take<W: Write>(&mut self, out: &mut W, byte: u8) -> io::Result<()> {
+        if byte != b'\n' {
+            return self.hold(out, byte);
+        }
+        self.finish(out)?;
+        self.count = 0;
+        self.spilled = false;
+        Ok(())
+    }
 }
 
 // A proved loop has to end, and nothing says that the input does: so the turns are counted, up to a number that no run uses up. A read or a write
@@ -96,21 +85,19 @@ fn take<W: Write>(out: &mut W, piece: &[u8], line: &mut [u8], before: Held) -> i
 fn main(rt: HostRuntime) -> io::Result<()> {
     let mut input = rt.stdin();
     let mut out = rt.stdout();
-    let mut line = [0u8; 1185];
-    let mut held = Held {
-        count: 0,
-        spilled: false,
-    };
+    let mut line = Line::blank();
     for _ in 0..u64::MAX {
         let mut piece = [0u8; 4096];
         let n = input.read(&mut piece)?;
         if n == 0 {
             break;
         }
-        held = take(&mut out, &piece[..n], &mut line, held)?;
+        for &byte in &piece[..n] {
+            line.take(&mut out, byte)?;
+        }
     }
-    if 0 < held.count {
-        finish(&mut out, &line, held)?;
+    if 0 < line.count {
+        line.finish(&mut out)?;
     }
     Ok(())
 }

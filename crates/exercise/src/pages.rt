@@ -1,65 +1,79 @@
-// A line and its answer, as text. A page goes in by value and comes back with more on it; what does not fit is left out, and the count is then past
-// the page's end, as in `text`.
+// A line and its answer, as text on a lent buffer. What does not fit is left out, as in `text`.
+use bits::Refusal;
+use text::Pen;
+
 #[derive(Drop)]
-pub(crate) struct Page {
-    pub(crate) bytes: [u8; 2816],
-    // how many of them are text; more than there are where something was left out
-    pub(crate) count: usize,
+pub(crate) struct Page<'a> {
+    pen: Pen<'a>,
 }
 
-impl Page {
-    pub(crate) fn blank() -> Self {
+impl<'a> Page<'a> {
+    pub(crate) fn blank(room: &'a mut [u8]) -> Self {
         Page {
-            bytes: [0u8; 2816],
-            count: 0,
+            pen: Pen::new(room, 0),
         }
     }
 
-    pub(crate) fn put(self, byte: u8) -> Self {
-        let mut bytes = self.bytes;
-        let count = text::put(&mut bytes, self.count, byte);
-        Page { bytes, count }
+    // Where the text ends, which is past the buffer's end where something was left out.
+    pub(crate) fn end(&self) -> usize {
+        self.pen.to
     }
 
-    pub(crate) fn all(self, more: &[u8]) -> Self {
-        let mut bytes = self.bytes;
-        let count = text::put_all(&mut bytes, self.count, more);
-        Page { bytes, count }
+    pub(crate) fn put(&mut self, byte: u8) {
+        self.pen.put(byte);
     }
 
-    pub(crate) fn number(self, n: u8) -> Self {
-        let mut bytes = self.bytes;
-        let count = text::put_number(&mut bytes, self.count, n as u64);
-        Page { bytes, count }
+    pub(crate) fn all(&mut self, more: &[u8]) {
+        self.pen.put_all(more);
     }
 
     // A blank, and a number.
-    pub(crate) fn next(self, n: u64) -> Self {
-        let mut bytes = self.bytes;
-        let count = text::put_next(&mut bytes, self.count, n);
-        Page { bytes, count }
+    pub(crate) fn next<N: Into<u64>>(&mut self, n: N) {
+        let n: u64 = n.into();
+        self.pen.put_next(n);
     }
 
     // A blank, and a number with its sign.
-    pub(crate) fn signed(self, z: i16) -> Self {
-        let mut bytes = self.bytes;
-        let count = text::put_next_signed(&mut bytes, self.count, z);
-        Page { bytes, count }
+    pub(crate) fn signed(&mut self, z: i16) {
+        self.pen.put_next(z);
     }
 
     // A blank, and a digit for each entry.
-    pub(crate) fn row(self, entries: &[u8]) -> Self {
-        let mut bytes = self.bytes;
-        let behind = text::put(&mut bytes, self.count, b' ');
-        let count = text_rows::put_row(&mut bytes, behind, entries);
-        Page { bytes, count }
+    pub(crate) fn row(&mut self, entries: &[u8]) {
+        self.put(b' ');
+        text_rows::put_row(&mut self.pen, entries);
     }
 
     // A blank, and two digits for each byte.
-    pub(crate) fn hex(self, more: &[u8]) -> Self {
-        let mut bytes = self.bytes;
-        let behind = text::put(&mut bytes, self.count, b' ');
-        let count = text_rows::put_hex(&mut bytes, behind, more);
-        Page { bytes, count }
+    pub(crate) fn hex(&mut self, more: &[u8]) {
+        self.put(b' ');
+        text_rows::put_hex(&mut self.pen, more);
+    }
+
+    // The number of a refusal.
+    pub(crate) fn refused(&mut self, why: Refusal) {
+        self.pen.put_text(u64::from(why.number()));
+    }
+
+    // How a call went: 0, or the number that refuses it.
+    pub(crate) fn number<T>(&mut self, answer: &Result<T, Refusal>) {
+        match answer {
+            Ok(_) => self.put(b'0'),
+            Err(why) => self.refused(*why),
+        }
+    }
+
+    // That number, and behind 0 what was answered.
+    pub(crate) fn told<T, F: FnOnce(&mut Page<'_>, T)>(
+        &mut self,
+        answer: Result<T, Refusal>,
+        put: F,
+    )
+        requires { F.IsAlwaysCallable put }
+    {
+        self.number(&answer);
+        if let Ok(value) = answer {
+            put(self, value);
+        }
     }
 }

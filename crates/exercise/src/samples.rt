@@ -1,147 +1,72 @@
 // The calls on samples, codes and factors.
-ghost use Rattle.std.specs.Prelude.{◌<◌};
-
+use crate::line_words::{Words, number_in};
 use crate::pages::Page;
-use crate::{line_words, signs, sums};
-use sample::{Chosen, Coded, Sampled};
+use crate::sums;
+use bits::Refusal;
 
-#[derive(Clone, Copy)]
-pub(crate) enum Way {
-    ToCode,
-    ToSample,
-}
-
-// The number that a call gives, or that refuses it.
-#[derive(Drop)]
-struct Answer {
-    accepted: bool,
-    value: i16,
-}
-
-fn asked(way: Way, n: i16, factor: u8) -> Answer {
-    match way {
-        Way::ToCode => match sample::code_of(n, factor) {
-            Coded::Code(code) => Answer {
-                accepted: true,
-                value: code,
-            },
-            Coded::Refused => Answer {
-                accepted: false,
-                value: 0,
-            },
-        },
-        Way::ToSample => match sample::sample_of(n, factor) {
-            Sampled::Sample(value) => Answer {
-                accepted: true,
-                value,
-            },
-            Sampled::Refused => Answer {
-                accepted: false,
-                value: 0,
-            },
-        },
-    }
-}
-
-pub(crate) fn single(way: Way, line: &[u8], at: usize, mut page: Page) -> Page {
-    let n = line_words::read_signed(line, at);
-    let factor = line_words::read_small(line, n.next);
-    if !line_words::ended(line, factor.next) {
-        return page;
-    }
-    let answer = asked(way, n.value, factor.value);
-    if answer.accepted {
-        page = page.put(b'0');
-        return page.signed(answer.value);
-    }
-    page.put(b'2')
-}
-
-// What an answer adds to a sum: its number + 32768, or 65538 for number 2.
-fn weight(way: Way, n: i16, factor: u8) -> u64
-    ensures { result < 65539 }
+// One call: a sample or a code, and a factor.
+pub(crate) fn single<F: Fn(i16, u8) -> Result<i16, Refusal>>(
+    mut words: Words<'_>,
+    page: &mut Page<'_>,
+    ask: F,
+) -> Option<()>
+    requires { F.IsAlwaysCallable ask }
 {
-    let answer = asked(way, n, factor);
-    if answer.accepted {
-        return signs::shifted(answer.value);
-    }
-    65538
+    let n = words.number()?;
+    let factor = words.number()?;
+    words.end()?;
+    page.told(ask(n, factor), |page, value| page.signed(value));
+    Some(())
 }
 
-fn sum_of(way: Way, factor: u8, start: u64, end: u64) -> u64
-    requires { end < 65537 }
+// What an answer adds to a sum; 65538 where it is refused, which it is with number 2.
+fn weight(answer: Result<i16, Refusal>) -> u32 {
+    answer.map_or(65538, sums::shifted)
+}
+
+// The same call for so many numbers from one on, none of them above 32767.
+pub(crate) fn swept<F: Fn(i16, u8) -> Result<i16, Refusal>>(
+    mut words: Words<'_>,
+    page: &mut Page<'_>,
+    ask: F,
+) -> Option<()>
+    requires { F.IsAlwaysCallable ask }
 {
-    let mut sum: u64 = 0;
-    let mut n = start;
-    while n < end {
-        sum = sums::added(sum, weight(way, signs::unshifted(n), factor));
-        n += 1;
+    let factor = words.number()?;
+    let first: i16 = words.number()?;
+    let count = words.up_to(4096)?;
+    words.end()?;
+    if usize::from(i16::MAX.abs_diff(first)) + 1 < count {
+        return None;
     }
-    sum
+    let mut sum = 0;
+    for n in (first..=i16::MAX).take(count) {
+        sum = sums::added(sum, weight(ask(n, factor)));
+    }
+    page.put(b'0');
+    page.next(sum);
+    Some(())
 }
 
-pub(crate) fn swept(way: Way, line: &[u8], at: usize, mut page: Page) -> Page {
-    let factor = line_words::read_small(line, at);
-    let first = line_words::read_signed(line, factor.next);
-    let count = line_words::read_number(line, first.next, 4096);
-    let start = signs::shifted(first.value);
-    let end = start + count.value;
-    if 65536 < end {
-        return page;
+// All that are left on the line, or a dash for none, in the first places of a list.
+fn read<'a>(mut words: Words<'_>, room: &'a mut [i16; 80]) -> Option<&'a [i16]> {
+    let first = words.next()?;
+    if first == "-" {
+        words.end()?;
+        return Some(&room[..0]);
     }
-    if !line_words::ended(line, count.next) {
-        return page;
-    }
-    let sum = sum_of(way, factor.value, start, end);
-    page = page.put(b'0');
-    page.next(sum)
-}
-
-// How many samples were read, 0 where one was none.
-fn read_samples(line: &[u8], at: usize, samples: &mut [i16]) -> usize {
-    let mut next = at;
-    let mut count: usize = 0;
-    while count < samples.len() {
-        if line_words::ended(line, next) {
-            return count;
-        }
-        let n = line_words::read_signed(line, next);
-        if n.next == 0 {
-            return 0;
-        }
-        let value = n.value;
-        samples[count] = value;
-        next = n.next;
+    room[0] = number_in(first)?;
+    let mut count = 1;
+    for word in words.rest() {
+        *room.get_mut(count)? = number_in(word)?;
         count += 1;
     }
-    if line_words::ended(line, next) {
-        count
-    } else {
-        0
-    }
+    room.get(..count)
 }
 
-fn chosen(samples: &[i16], mut page: Page) -> Page {
-    match sample::factor_of(samples) {
-        Chosen::Factor(factor) => {
-            page = page.put(b'0');
-            page.next(factor as u64)
-        }
-        Chosen::Refused => page.put(b'1'),
-    }
-}
-
-pub(crate) fn factor(line: &[u8], at: usize, page: Page) -> Page {
-    let mut samples = [0i16; 80];
-    if line_words::ended(line, line_words::read_mark(line, at, b'-')) {
-        return chosen(&samples[0..0], page);
-    }
-    let count = read_samples(line, at, &mut samples);
-    if count == 0 {
-        return page;
-    }
-    if 80 < count {
-        return page;
-    }
-    chosen(&samples[0..count], page)
+pub(crate) fn factor(words: Words<'_>, page: &mut Page<'_>) -> Option<()> {
+    let mut room = [0; 80];
+    let samples = read(words, &mut room)?;
+    page.told(sample::factor_of(samples), |page, factor| page.next(factor));
+    Some(())
 }

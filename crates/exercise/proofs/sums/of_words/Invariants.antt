@@ -1,9 +1,0 @@
--- `exercise::sums::of_words` is safe and ends. Assumes nothing.
-use Prim.Native.Nat.{◌-◌, ◌<◌}
-use Rattle.exercise.proofs.sums.of_words.Given as goal
-
-abbrev pub invariant-loop-i : goal.invariant-loop-i
-invariant-loop-i l = l.sum < 4294967296
-
-abbrev pub decreases-loop-i : goal.decreases-loop-i
-decreases-loop-i l = 16 - l.i
