@@ -1,148 +1,134 @@
-// The text of what a superframe carries beside its sound, in a transcript (docs/TRANSCRIPT.md): five lines, put into a lent buffer.
+// The text of what a superframe carries beside its sound, in a transcript (docs/TRANSCRIPT.md), put by a pen: five lines.
 #![tactic(auto)]
 
-ghost use Rattle.std.specs.Prelude.{◌≡◌};
+ghost use Rattle.std.specs.Prelude.{[], ◌∷◌, ◌++◌, ◌<◌};
 ghost use Rattle.bits.specs.Digits.{digits};
-ghost use Rattle.text.specs.Page.{page, put_text};
-ghost use Rattle.text_rows.specs.Turns.{in_turn, part};
+ghost use Rattle.text.specs.Pens.{Puts};
+ghost use Rattle.text_rows.specs.Turns.{in_turn, PutsTurns};
 ghost use Rattle.beside_text.specs.Lines.{next_hex, service_line, labels_line, pair_text, factors_line, places_text, far_line, words_line, beside_text, information_line};
 
 use superframe::Taken;
+use text::Pen;
 
-fn put_next_hex(out: &mut [u8], to: usize, bytes: &[u8]) -> usize
-    ensures { page out.new result ≡ put_text (page out.old to) (next_hex bytes.now) }
+// A line of texts that follow one another, each as a closure puts it: a word, so many texts, and the end.
+fn put_line<F: Fn(&mut Pen<'_>, usize)>(pen: &mut Pen<'_>, word: &[u8], n: usize, put: F)
+    requires { (i : _) (p : _) → i < n → F.pre put p i }
+    ensures { (f : _) → PutsTurns (F.post put) n f → Puts pen.old pen.new (word.now ++ (in_turn n f ++ (10 ∷ []))) }
 {
-    let behind = text::put(out, to, b' ');
-    text_rows::put_hex(out, behind, bytes)
+    pen.put_all(word);
+    text_rows::put_turns(pen, n, put);
+    pen.put(b'\n');
 }
 
-fn put_service(out: &mut [u8], to: usize, position: u8, number: u8, six: &[u8]) -> usize
-    ensures { page out.new result ≡ put_text (page out.old to) (service_line position number six.now) }
+fn put_next_hex(pen: &mut Pen<'_>, bytes: &[u8])
+    ensures { Puts pen.old pen.new (next_hex bytes.now) }
 {
-    let word = text::put_all(out, to, b"service");
-    let first = text::put_next(out, word, position as u64);
-    let second = text::put_next(out, first, number as u64);
-    let end = put_next_hex(out, second, six);
-    text::put(out, end, b'\n')
+    pen.put(b' ');
+    text_rows::put_hex(pen, bytes);
 }
 
-fn put_each_label(out: &mut [u8], to: usize, labels: [u8; 256]) -> usize
-    ensures { page out.new result ≡ put_text (page out.old to) (in_turn 32 (λ c. next_hex (part 8 c labels))) }
+fn put_service(pen: &mut Pen<'_>, position: u8, number: u8, six: &[u8])
+    ensures { Puts pen.old pen.new (service_line position number six.now) }
 {
-    let mut end = to;
-    let mut c: usize = 0;
-    while c < 32 {
-        let a = 8 * c;
-        let e = a + 8;
-        end = put_next_hex(out, end, &labels[a..e]);
-        c += 1;
-    }
-    end
+    pen.put_all(b"service");
+    pen.put_next(position as u64);
+    pen.put_next(number as u64);
+    put_next_hex(pen, six);
+    pen.put(b'\n');
 }
 
-fn put_labels(out: &mut [u8], to: usize, complete: bool, labels: [u8; 256]) -> usize
-    ensures { page out.new result ≡ put_text (page out.old to) (labels_line complete labels) }
+fn put_labels(pen: &mut Pen<'_>, complete: bool, labels: [u8; 256])
+    ensures { Puts pen.old pen.new (labels_line complete labels) }
 {
-    let word = text::put_all(out, to, b"labels");
     if complete {
-        let end = put_each_label(out, word, labels);
-        return text::put(out, end, b'\n');
+        put_line(
+            pen,
+            b"labels",
+            32,
+            |pen, c| put_next_hex(pen, &labels[8 * c..8 * c + 8]),
+        );
+    } else {
+        pen.put_all(b"labels none\n");
     }
-    text::put_all(out, word, b" none\n")
 }
 
-fn put_pair(out: &mut [u8], to: usize, number: u8, factors: &[u8]) -> usize
-    ensures { page out.new result ≡ put_text (page out.old to) (pair_text number factors.now) }
+fn put_pair(pen: &mut Pen<'_>, number: u8, factors: &[u8])
+    ensures { Puts pen.old pen.new (pair_text number factors.now) }
 {
-    let behind = text::put(out, to, b' ');
+    pen.put(b' ');
     if number == 0 {
-        return text_rows::put_row(out, behind, factors);
+        text_rows::put_row(pen, factors);
+    } else {
+        pen.put_all(b"--");
     }
-    text::put_all(out, behind, b"--")
 }
 
-fn put_factors(out: &mut [u8], to: usize, numbers: [u8; 16], factors: [u8; 32]) -> usize
-    ensures { page out.new result ≡ put_text (page out.old to) (factors_line numbers factors) }
+fn put_factors(pen: &mut Pen<'_>, numbers: [u8; 16], factors: [u8; 32])
+    ensures { Puts pen.old pen.new (factors_line numbers factors) }
 {
-    let mut end = text::put_all(out, to, b"factors");
-    let mut q: usize = 0;
-    while q < 16 {
-        let a = 2 * q;
-        let e = a + 2;
-        end = put_pair(out, end, numbers[q], &factors[a..e]);
-        q += 1;
-    }
-    text::put(out, end, b'\n')
+    put_line(
+        pen,
+        b"factors",
+        16,
+        |pen, q| put_pair(pen, numbers[q], &factors[2 * q..2 * q + 2]),
+    );
 }
 
-fn put_places(out: &mut [u8], to: usize, number: u8, places: u8) -> usize
-    ensures { page out.new result ≡ put_text (page out.old to) (places_text number places) }
+#[tactic(auto, unfolding(crate::specs::Lines::places_text, bits::specs::Letters::letters))]
+fn put_places(pen: &mut Pen<'_>, number: u8, places: u8)
+    ensures { Puts pen.old pen.new (places_text number places) }
 {
     if number != 0 {
-        return text::put_all(out, to, b" -");
+        pen.put_all(b" -");
+    } else {
+        pen.put_next(places as u64);
     }
-    text::put_next(out, to, places as u64)
 }
 
-fn put_far(out: &mut [u8], to: usize, numbers: [u8; 16], places: [u8; 16]) -> usize
-    ensures { page out.new result ≡ put_text (page out.old to) (far_line numbers places) }
+fn put_far(pen: &mut Pen<'_>, numbers: [u8; 16], places: [u8; 16])
+    ensures { Puts pen.old pen.new (far_line numbers places) }
 {
-    let mut end = text::put_all(out, to, b"far");
-    let mut q: usize = 0;
-    while q < 16 {
-        end = put_places(out, end, numbers[q], places[q]);
-        q += 1;
-    }
-    text::put(out, end, b'\n')
+    put_line(
+        pen,
+        b"far",
+        16,
+        |pen, q| put_places(pen, numbers[q], places[q]),
+    );
 }
 
-fn put_word(out: &mut [u8], to: usize, word: u32) -> usize
-    ensures { page out.new result ≡ put_text (page out.old to) (next_hex (digits 256 3 word)) }
+fn put_word(pen: &mut Pen<'_>, word: u32)
+    ensures { Puts pen.old pen.new (next_hex (digits 256 3 word)) }
 {
     let high = (word / 65536 % 256) as u8;
     let middle = (word / 256 % 256) as u8;
     let low = (word % 256) as u8;
-    put_next_hex(out, to, &[high, middle, low])
+    put_next_hex(pen, &[high, middle, low]);
 }
 
-fn put_words(out: &mut [u8], to: usize, words: [u32; 16]) -> usize
-    ensures { page out.new result ≡ put_text (page out.old to) (words_line words) }
+fn put_words(pen: &mut Pen<'_>, words: [u32; 16])
+    ensures { Puts pen.old pen.new (words_line words) }
 {
-    let mut end = text::put_all(out, to, b"words");
-    let mut q: usize = 0;
-    while q < 16 {
-        end = put_word(out, end, words[q]);
-        q += 1;
-    }
-    text::put(out, end, b'\n')
+    put_line(pen, b"words", 16, |pen, q| put_word(pen, words[q]));
 }
 
 // A line of information words alone, as the folder for the restorers has it for each superframe; `lost` for one that was not taken.
-pub fn put_information(out: &mut [u8], to: usize, taken: Taken) -> usize
-    ensures { page out.new result ≡ put_text (page out.old to) (information_line taken) }
+#[tactic(auto, unfolding(crate::specs::Lines::information_line, bits::specs::Letters::letters))]
+pub fn put_information(pen: &mut Pen<'_>, taken: Taken)
+    ensures { Puts pen.old pen.new (information_line taken) }
 {
-    if taken.number != 0 {
-        return text::put_all(out, to, b"lost\n");
+    if taken.number == 0 {
+        put_words(pen, taken.programmes.words);
+    } else {
+        pen.put_all(b"lost\n");
     }
-    let programmes = taken.programmes;
-    let words = programmes.words;
-    put_words(out, to, words)
 }
 
-// From a place on; the place behind the lines is answered, in the way of `text`.
-pub fn put_beside(out: &mut [u8], to: usize, taken: Taken) -> usize
-    ensures { page out.new result ≡ put_text (page out.old to) (beside_text taken) }
+pub fn put_beside(pen: &mut Pen<'_>, taken: Taken)
+    ensures { Puts pen.old pen.new (beside_text taken) }
 {
-    let six = taken.six;
-    let labels = taken.labels;
-    let programmes = taken.programmes;
-    let numbers = programmes.numbers;
-    let factors = programmes.factors;
-    let places = programmes.places;
-    let words = programmes.words;
-    let service = put_service(out, to, taken.position, taken.service, &six);
-    let labelled = put_labels(out, service, taken.complete, labels);
-    let scaled = put_factors(out, labelled, numbers, factors);
-    let measured = put_far(out, scaled, numbers, places);
-    put_words(out, measured, words)
+    put_service(pen, taken.position, taken.service, &taken.six);
+    put_labels(pen, taken.complete, taken.labels);
+    put_factors(pen, taken.programmes.numbers, taken.programmes.factors);
+    put_far(pen, taken.programmes.numbers, taken.programmes.places);
+    put_words(pen, taken.programmes.words);
 }

@@ -9,10 +9,17 @@ use mathlib.Core.List.{List, [], ◌∷◌, ◌++◌}
 use Prim.Native.Nat.{ℕ, suc, ◌+◌, ◌^◌, ◌≤◌, ◌<◌}
 use native.Mathlib.Nat.{zero-add}
 use native.Mathlib.Omega.{arith}
+use borrow.Author.Tests.{ne_eqb}
 use lib.Dec.{eqb}
 use lib.ListN.{length, drop, length-append}
-use Rattle.bits.specs.Answer.{accepted}
+use Rattle.std.specs.declared.result.Result.{Result}
+use Rattle.std.specs.declared.result.Result.TheVariants.{Ok, Err}
+use Rattle.bits.specs.Answer.{accepted, refused}
+use Rattle.bits.specs.Refused.{number_of}
+use Rattle.bits.specs.declared.refusal.Refusal.{Refusal}
+use Rattle.bits.specs.declared.refusal.Refusal.TheVariants.{Length, Range, Sync, Scale, Parity, Header as WrongHeader, Full}
 use Rattle.bits.specs.Letters.{letters}
+use Rattle.bits.proofs.Refused.{not_zero}
 use Rattle.bits.proofs.Tests.{either_way}
 use Rattle.text.specs.Page.{page}
 use Rattle.text.specs.Entry.{entered_text}
@@ -20,8 +27,7 @@ use Rattle.text.specs.Digits.{decimal, decimal_in}
 use Rattle.text.proofs.Decimal.{decimal-short}
 use Rattle.text.proofs.Entry.{entered-fits}
 use Rattle.reel.specs.Header.{header_answer}
-use Rattle.reel.specs.declared.HeaderRead.{HeaderRead}
-use Rattle.reel.specs.declared.HeaderRead.TheVariants.{Reel, NoHeader}
+use Rattle.reel.specs.declared.Header.{Header}
 use Rattle.listing_text.specs.Listing.{line, ending, seven_lines, listing}
 use Rattle.tally.specs.declared.Totals.{Totals}
 
@@ -72,13 +78,29 @@ length-seven promised t h =
       length-append (line (letters "bad") t.bad) _,
     ) (omega (arith, a, b, w, c, d, e, f))
 
-pub listing-fits : (h : HeaderRead) (t : Totals) → Held t → length (listing (header_answer h) t) ≤ 175
+-- the number of a refusal is one digit, and not 0
+pub one-digit : (r : Refusal) → number_of r < 10
+one-digit Length = omega arith
+one-digit Range = omega arith
+one-digit Sync = omega arith
+one-digit Scale = omega arith
+one-digit Parity = omega arith
+one-digit WrongHeader = omega arith
+one-digit Full = omega arith
+
+pub refused-listing : (r : Refusal) (t : Totals) → listing (refused (number_of r)) t ≡ line (letters "refused") (number_of r)
+unfolding listing
+refused-listing r t = rw (ne_eqb (number_of r) 0 (not_zero r)) refl
+
+pub listing-fits : (h : Result Header Refusal) (t : Totals) → Held t → length (listing (header_answer h) t) ≤ 175
 unfolding listing letters
-listing-fits (Reel count offset) t l = length-seven count t l
-listing-fits NoHeader t l = let r = length-line 0 (letters "refused") 8 (omega arith) in omega (arith, r)
+listing-fits (Ok h) t l = length-seven h.count t l
+listing-fits (Err r) t l =
+    let d = length-line 0 (letters "refused") (number_of r) (one-digit r) in
+    rw (ne_eqb (number_of r) 0 (not_zero r)) (omega (arith, d))
 
 pub listing-whole :
-    (out : List ℕ) (h : HeaderRead) (t : Totals) → 175 ≤ length out → Held t →
+    (out : List ℕ) (h : Result Header Refusal) (t : Totals) → 175 ≤ length out → Held t →
     let s = listing (header_answer h) t in
     entered_text (page out 0) s ≡ record { number = 0; page = page (s ++ drop (length s) out) (length s) }
 listing-whole out h t room held =

@@ -1,66 +1,63 @@
-// The text of a listing (docs/FORMAT.md, "Reel file and listing"), put into a lent buffer.
+// The text of a listing (docs/FORMAT.md, "Reel file and listing"), put by a pen.
 #![tactic(auto)]
 
-ghost use Rattle.std.specs.Prelude.{◌≡◌};
-ghost use Rattle.text.specs.Page.{page, put_text};
-ghost use Rattle.text.specs.Entry.{entered, entered_text};
+ghost use Rattle.text.specs.Pens.{Puts};
+ghost use Rattle.text.specs.Entry.{PutsWhole};
 ghost use Rattle.reel.specs.Header.{header_answer};
 ghost use Rattle.listing_text.specs.Listing.{line, ending, seven_lines, listing};
 
-use reel::HeaderRead;
+use bits::Refusal;
+use reel::Header;
 use tally::Totals;
-use text::Placed;
+use text::Pen;
 
-pub fn put_line(out: &mut [u8], to: usize, word: &[u8], n: u64) -> usize
-    ensures { page out.new result ≡ put_text (page out.old to) (line word.now n) }
+pub fn put_line(pen: &mut Pen<'_>, word: &[u8], n: u64)
+    ensures { Puts pen.old pen.new (line word.now n) }
 {
-    let behind = text::put_all(out, to, word);
-    let blank = text::put(out, behind, b' ');
-    let number = text::put_number(out, blank, n);
-    text::put(out, number, b'\n')
+    pen.put_all(word);
+    pen.put_next(n);
+    pen.put(b'\n');
 }
 
-pub fn put_ending(out: &mut [u8], to: usize, promised: u32, read: u64) -> usize
-    ensures { page out.new result ≡ put_text (page out.old to) (ending promised read) }
+#[tactic(auto, unfolding(crate::specs::Listing::ending, bits::specs::Letters::letters))]
+pub fn put_ending(pen: &mut Pen<'_>, promised: u32, read: u64)
+    ensures { Puts pen.old pen.new (ending promised read) }
 {
-    if promised as u64 == read {
-        return text::put_all(out, to, b"end ok\n");
+    if u64::from(promised) == read {
+        pen.put_all(b"end ok\n");
+    } else {
+        pen.put_all(b"end short\n");
     }
-    text::put_all(out, to, b"end short\n")
 }
 
-fn put_totals(out: &mut [u8], to: usize, promised: u32, totals: Totals) -> usize
-    ensures { page out.new result ≡ put_text (page out.old to) (seven_lines promised totals) }
+fn put_totals(pen: &mut Pen<'_>, promised: u32, totals: Totals)
+    ensures { Puts pen.old pen.new (seven_lines promised totals) }
 {
-    let superframes = put_line(out, to, b"superframes", totals.superframes);
-    let lost = put_line(out, superframes, b"lost", totals.lost);
-    let wrong = put_line(out, lost, b"sync", totals.wrong);
-    let clean = put_line(out, wrong, b"clean", totals.clean);
-    let mended = put_line(out, clean, b"mended", totals.mended);
-    let bad = put_line(out, mended, b"bad", totals.bad);
-    put_ending(out, bad, promised, totals.superframes)
+    put_line(pen, b"superframes", totals.superframes);
+    put_line(pen, b"lost", totals.lost);
+    put_line(pen, b"sync", totals.wrong);
+    put_line(pen, b"clean", totals.clean);
+    put_line(pen, b"mended", totals.mended);
+    put_line(pen, b"bad", totals.bad);
+    put_ending(pen, promised, totals.superframes);
 }
 
-fn put_lines(out: &mut [u8], to: usize, header: HeaderRead, totals: Totals) -> usize
-    ensures { page out.new result ≡ put_text (page out.old to) (listing (header_answer header) totals) }
+fn put_lines(pen: &mut Pen<'_>, header: Result<Header, Refusal>, totals: Totals)
+    ensures { Puts pen.old pen.new (listing (header_answer header) totals) }
 {
     match header {
-        HeaderRead::NoHeader => put_line(out, to, b"refused", 8),
-        HeaderRead::Reel { count, offset: _ } => put_totals(out, to, count, totals),
+        Ok(header) => put_totals(pen, header.count, totals),
+        Err(refusal) => put_line(pen, b"refused", u64::from(refusal.number())),
     }
 }
 
-// What a reel's header says, and the totals of its superframes, as text from a place on. The text is put first where there is no room for it,
-// to learn where it ends.
-pub fn put_listing(out: &mut [u8], to: usize, header: HeaderRead, totals: Totals) -> Placed
-    ensures { entered result out.new ≡ entered_text (page out.old to) (listing (header_answer header) totals) }
+// What a reel's header says, and the totals of its superframes, as text from the pen's place on.
+pub fn put_listing(
+    pen: &mut Pen<'_>,
+    header: Result<Header, Refusal>,
+    totals: Totals,
+) -> Result<(), Refusal>
+    ensures { PutsWhole pen.old pen.new result (listing (header_answer header) totals) }
 {
-    let mut none = [0u8; 1];
-    let end = put_lines(&mut none, to, header, totals);
-    let placed = Placed::within(out.len(), to, end);
-    if placed.number != 0 {
-        return placed;
-    }
-    put_lines(out, to, header, totals);
-    placed
+    pen.put_whole(|pen| put_lines(pen, header, totals))
 }

@@ -3,15 +3,22 @@
 --     totals-fit            the text has at most 1,057 characters
 --     totals-whole          so a buffer of so many bytes holds it from its first byte on: it is not refused, and stands there
 -- Assumes nothing.
-use mathlib.Core.Path.{◌≡◌, ap, ◌∙◌}
+use mathlib.Core.Path.{◌≡◌, refl, ap, ◌∙◌}
 use mathlib.Core.List.{List, ◌++◌}
 use Prim.Native.Nat.{ℕ, ◌+◌, ◌^◌, ◌≤◌, ◌<◌}
 use native.Mathlib.Nat.{zero-add}
 use native.Mathlib.Omega.{arith}
+use borrow.Author.Tests.{ne_eqb}
 use lib.ListN.{length, drop, get_or, length-append}
+use Rattle.std.specs.declared.result.Result.{Result}
+use Rattle.std.specs.declared.result.Result.TheVariants.{Ok, Err}
+use Rattle.bits.specs.Answer.{refused}
 use Rattle.bits.specs.Digits.{Below}
+use Rattle.bits.specs.Refused.{number_of}
+use Rattle.bits.specs.declared.refusal.Refusal.{Refusal}
 use Rattle.bits.specs.Letters.{letters}
 use Rattle.bits.proofs.Digits.{below-get_or}
+use Rattle.bits.proofs.Refused.{not_zero}
 use Rattle.text.specs.Digits.{decimal}
 use Rattle.text.specs.Page.{page}
 use Rattle.text.specs.Entry.{entered_text}
@@ -20,10 +27,9 @@ use Rattle.text.proofs.Entry.{entered-fits}
 use Rattle.text_rows.specs.Turns.{next, in_turn}
 use Rattle.text_rows.proofs.Turns.{length-turns}
 use Rattle.reel.specs.Header.{header_answer}
-use Rattle.reel.specs.declared.HeaderRead.{HeaderRead}
-use Rattle.reel.specs.declared.HeaderRead.TheVariants.{Reel, NoHeader}
+use Rattle.reel.specs.declared.Header.{Header}
 use Rattle.listing_text.specs.Listing.{line}
-use Rattle.listing_text.proofs.Text.{length-line, length-ending}
+use Rattle.listing_text.proofs.Text.{length-line, length-ending, one-digit}
 use Rattle.running.specs.Running.{given_in}
 use Rattle.running.specs.declared.Running.{Running}
 use Rattle.totals_text.specs.Totals.{counts_line, programme_line, totals_lines, totals_text}
@@ -74,13 +80,19 @@ length-lines promised t h =
       length-append (in_turn 16 (programme_line t.clean t.mended t.bad)) _,
     ) (omega (arith, a, b, c, d))
 
-pub totals-fit : (h : HeaderRead) (t : Running) → Held t → length (totals_text (header_answer h) t) ≤ 1057
+pub refused-totals : (r : Refusal) (t : Running) → totals_text (refused (number_of r)) t ≡ line (letters "refused") (number_of r)
+unfolding totals_text
+refused-totals r t = rw (ne_eqb (number_of r) 0 (not_zero r)) refl
+
+pub totals-fit : (h : Result Header Refusal) (t : Running) → Held t → length (totals_text (header_answer h) t) ≤ 1057
 unfolding totals_text letters
-totals-fit (Reel count offset) t l = length-lines count t l
-totals-fit NoHeader t l = let r = length-line 0 (letters "refused") 8 (omega arith) in omega (arith, r)
+totals-fit (Ok h) t l = length-lines h.count t l
+totals-fit (Err r) t l =
+    let d = length-line 0 (letters "refused") (number_of r) (one-digit r) in
+    rw (ne_eqb (number_of r) 0 (not_zero r)) (omega (arith, d))
 
 pub totals-whole :
-    (out : List ℕ) (h : HeaderRead) (t : Running) → 1057 ≤ length out → Held t →
+    (out : List ℕ) (h : Result Header Refusal) (t : Running) → 1057 ≤ length out → Held t →
     let s = totals_text (header_answer h) t in
     entered_text (page out 0) s ≡ record { number = 0; page = page (s ++ drop (length s) out) (length s) }
 totals-whole out h t room held =

@@ -1,77 +1,60 @@
-// The text of running totals (document 02, P7; docs/HAND-ON.md, "totals.txt"), put into a lent buffer. Programmes count from 0 here, and from 1 in the text.
+// The text of running totals (document 02, P7; docs/HAND-ON.md, "totals.txt"), put by a pen. Programmes count from 0 here, and from 1 in the text.
 #![tactic(auto)]
 
-ghost use Rattle.std.specs.Prelude.{◌≡◌};
-ghost use Rattle.text.specs.Page.{page, put_text};
-ghost use Rattle.text.specs.Entry.{entered, entered_text};
-ghost use Rattle.text_rows.specs.Turns.{in_turn};
+ghost use Rattle.std.specs.Prelude.{◌<◌};
+ghost use Rattle.text.specs.Pens.{Puts};
+ghost use Rattle.text.specs.Entry.{PutsWhole};
 ghost use Rattle.reel.specs.Header.{header_answer};
 ghost use Rattle.totals_text.specs.Totals.{counts_line, programme_line, totals_lines, totals_text};
 
-use reel::HeaderRead;
+use bits::Refusal;
+use reel::Header;
 use running::Running;
-use text::Placed;
+use text::Pen;
 
-fn put_programme(out: &mut [u8], to: usize, q: u8, clean: u32, mended: u32, bad: u32) -> usize
-    ensures { page out.new result ≡ put_text (page out.old to) (counts_line q clean mended bad) }
+fn put_programme(pen: &mut Pen<'_>, q: u64, clean: u32, mended: u32, bad: u32)
+    requires { q < 16 }
+    ensures { Puts pen.old pen.new (counts_line q clean mended bad) }
 {
-    let word = text::put_all(out, to, b"programme");
-    let name = text::put_next(out, word, q as u64 + 1);
-    let second = text::put_all(out, name, b" clean");
-    let first = text::put_next(out, second, clean as u64);
-    let third = text::put_all(out, first, b" mended");
-    let middle = text::put_next(out, third, mended as u64);
-    listing_text::put_line(out, middle, b" bad", bad as u64)
+    pen.put_all(b"programme");
+    pen.put_next(q + 1);
+    pen.put_all(b" clean");
+    pen.put_next(clean as u64);
+    pen.put_all(b" mended");
+    pen.put_next(mended as u64);
+    listing_text::put_line(pen, b" bad", bad as u64);
 }
 
-fn put_programmes(out: &mut [u8], to: usize, totals: Running) -> usize
-    ensures { page out.new result ≡ put_text (page out.old to) (in_turn 16 (programme_line totals.clean totals.mended totals.bad)) }
+fn put_all(pen: &mut Pen<'_>, promised: u32, totals: Running)
+    ensures { Puts pen.old pen.new (totals_lines promised totals) }
 {
-    let clean = totals.clean;
-    let mended = totals.mended;
-    let bad = totals.bad;
-    let mut end = to;
-    let mut q: u8 = 0;
-    while q < 16 {
-        let n = q as usize;
-        end = put_programme(out, end, q, clean[n], mended[n], bad[n]);
-        q += 1;
-    }
-    end
-}
-
-fn put_all(out: &mut [u8], to: usize, promised: u32, totals: Running) -> usize
-    ensures { page out.new result ≡ put_text (page out.old to) (totals_lines promised totals) }
-{
-    let taken = totals.taken as u64;
     let lost = totals.lost as u64;
-    let given = taken + lost;
-    let first = listing_text::put_line(out, to, b"superframes", given);
-    let second = listing_text::put_line(out, first, b"lost", lost);
-    let programmes = put_programmes(out, second, totals);
-    listing_text::put_ending(out, programmes, promised, given)
+    let given = totals.taken as u64 + lost;
+    listing_text::put_line(pen, b"superframes", given);
+    listing_text::put_line(pen, b"lost", lost);
+    text_rows::put_turns(pen, 16, |pen, q| {
+        let (clean, mended, bad) = (totals.clean[q], totals.mended[q], totals.bad[q]);
+        put_programme(pen, q as u64, clean, mended, bad);
+    });
+    listing_text::put_ending(pen, promised, given);
 }
 
-fn put_lines(out: &mut [u8], to: usize, header: HeaderRead, totals: Running) -> usize
-    ensures { page out.new result ≡ put_text (page out.old to) (totals_text (header_answer header) totals) }
+fn put_lines(pen: &mut Pen<'_>, header: Result<Header, Refusal>, totals: Running)
+    ensures { Puts pen.old pen.new (totals_text (header_answer header) totals) }
 {
     match header {
-        HeaderRead::NoHeader => listing_text::put_line(out, to, b"refused", 8),
-        HeaderRead::Reel { count, offset: _ } => put_all(out, to, count, totals),
+        Ok(header) => put_all(pen, header.count, totals),
+        Err(refusal) => listing_text::put_line(pen, b"refused", u64::from(refusal.number())),
     }
 }
 
-// What a reel's header says, and the running totals of its superframes, as text from a place on. The text is put first where there is no room for it,
-// to learn where it ends.
-pub fn put_totals(out: &mut [u8], to: usize, header: HeaderRead, totals: Running) -> Placed
-    ensures { entered result out.new ≡ entered_text (page out.old to) (totals_text (header_answer header) totals) }
+// What a reel's header says, and the running totals of its superframes, as text from the pen's place on.
+pub fn put_totals(
+    pen: &mut Pen<'_>,
+    header: Result<Header, Refusal>,
+    totals: Running,
+) -> Result<(), Refusal>
+    ensures { PutsWhole pen.old pen.new result (totals_text (header_answer header) totals) }
 {
-    let mut none = [0u8; 1];
-    let end = put_lines(&mut none, to, header, totals);
-    let placed = Placed::within(out.len(), to, end);
-    if placed.number != 0 {
-        return placed;
-    }
-    put_lines(out, to, header, totals);
-    placed
+    pen.put_whole(|pen| put_lines(pen, header, totals))
 }

@@ -3,14 +3,15 @@ use mathlib.Core.Path.{◌≡◌}
 use mathlib.Core.List.{List}
 use Prim.Native.Nat.{ℕ}
 use lib.IntN.{ℤ}
+use Rattle.std.specs.declared.result.Result.{Result}
+use Rattle.bits.specs.declared.refusal.Refusal.{Refusal}
 use Rattle.text.specs.Page.{Page}
 use Rattle.text.specs.Entry.{entered}
-use Rattle.text.specs.declared.Placed.{Placed}
 use Rattle.text.proofs.Unique.{entered-unique}
 use Rattle.superframe.specs.declared.taking.Taken.{Taken}
 use Rattle.transcript_text.specs.Superframe.{entered_superframe}
 
-module _ (out out' : List ℕ) (r r' : Placed) (start : Page) (k : ℕ) (t : Taken) (samples : List ℤ) (marks : List ℕ) where
+module _ (p p' : Page) (r r' : Result (Unit {0}) Refusal) (start : Page) (k : ℕ) (t : Taken) (samples : List ℤ) (marks : List ℕ) where
   pub put-superframe-unique :
-      entered r out ≡ entered_superframe start k t samples marks → entered r' out' ≡ entered_superframe start k t samples marks → (out ≡ out') × (r ≡ r')
-  put-superframe-unique = entered-unique out out' r r' (entered_superframe start k t samples marks)
+      entered r p ≡ entered_superframe start k t samples marks → entered r' p' ≡ entered_superframe start k t samples marks → (p ≡ p') × (r ≡ r')
+  put-superframe-unique = entered-unique p p' r r' (entered_superframe start k t samples marks)

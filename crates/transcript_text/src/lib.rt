@@ -1,92 +1,72 @@
-// The text of a transcript (docs/TRANSCRIPT.md): the lines of a superframe, put into a lent buffer.
+// The text of a transcript (docs/TRANSCRIPT.md): the lines of a superframe, put by a pen.
 #![tactic(auto)]
 
 ghost use Rattle.std.specs.Prelude.{◌≡◌, length};
-ghost use Rattle.text.specs.Page.{page, put_text};
+ghost use Rattle.text.specs.Pens.{on, Puts};
 ghost use Rattle.text.specs.Entry.{entered};
 ghost use Rattle.transcript_text.specs.Superframe.{head_line, sync_line, blocks_line, superframe_text, entered_superframe};
 
+use bits::Refusal;
 use superframe::Taken;
 use tape::Blocks;
-use text::Placed;
+use text::Pen;
 
-fn put_head(out: &mut [u8], to: usize, k: u32, number: u8) -> usize
-    ensures { page out.new result ≡ put_text (page out.old to) (head_line k number) }
+fn put_head(pen: &mut Pen<'_>, k: u32, number: u8)
+    ensures { Puts pen.old pen.new (head_line k number) }
 {
-    let word = text::put_all(out, to, b"superframe");
-    let name = text::put_next(out, word, k as u64);
-    let second = text::put_all(out, name, b" number");
-    let end = text::put_next(out, second, number as u64);
-    text::put(out, end, b'\n')
+    pen.put_all(b"superframe");
+    pen.put_next(k as u64);
+    pen.put_all(b" number");
+    pen.put_next(number as u64);
+    pen.put(b'\n');
 }
 
-fn put_blocks(out: &mut [u8], to: usize, blocks: Blocks) -> usize
-    ensures { page out.new result ≡ put_text (page out.old to) (blocks_line blocks) }
+fn put_blocks(pen: &mut Pen<'_>, blocks: Blocks)
+    ensures { Puts pen.old pen.new (blocks_line blocks) }
 {
-    let clean = blocks.clean;
-    let mended = blocks.mended;
-    let bad = blocks.bad;
-    let word = text::put_all(out, to, b"blocks");
-    let first = text::put_next(out, word, tally::sum(clean));
-    let second = text::put_next(out, first, tally::sum(mended));
-    let end = text::put_next(out, second, tally::sum(bad));
-    text::put(out, end, b'\n')
+    let Blocks { clean, mended, bad } = blocks;
+    pen.put_all(b"blocks");
+    pen.put_next(tally::sum(clean));
+    pen.put_next(tally::sum(mended));
+    pen.put_next(tally::sum(bad));
+    pen.put(b'\n');
 }
 
 // How many bits of the syncs are wrong.
-fn put_wrong(out: &mut [u8], to: usize, wrong: u16) -> usize
-    ensures { page out.new result ≡ put_text (page out.old to) (sync_line wrong) }
+fn put_wrong(pen: &mut Pen<'_>, wrong: u16)
+    ensures { Puts pen.old pen.new (sync_line wrong) }
 {
-    let word = text::put_all(out, to, b"sync");
-    let end = text::put_next(out, word, wrong as u64);
-    text::put(out, end, b'\n')
+    pen.put_all(b"sync");
+    pen.put_next(wrong as u64);
+    pen.put(b'\n');
 }
 
-fn put_lines(
-    out: &mut [u8],
-    to: usize,
-    k: u32,
-    taken: Taken,
-    samples: &[i16],
-    marks: &[u8],
-) -> usize
+fn put_lines(pen: &mut Pen<'_>, k: u32, taken: Taken, samples: &[i16], marks: &[u8])
     requires { (length samples.now ≡ 2048) × (length marks.now ≡ 2048) }
-    ensures { page out.new result ≡ put_text (page out.old to) (superframe_text k taken samples.now marks.now) }
+    ensures { Puts pen.old pen.new (superframe_text k taken samples.now marks.now) }
 {
-    let head = put_head(out, to, k, taken.number);
-    if taken.number != 0 {
-        return head;
+    put_head(pen, k, taken.number);
+    if taken.number == 0 {
+        beside_text::put_beside(pen, taken);
+        put_wrong(pen, taken.wrong);
+        put_blocks(pen, taken.blocks);
+        frames_text::put_frames(pen, samples, marks);
     }
-    let blocks = taken.blocks;
-    let beside = beside_text::put_beside(out, head, taken);
-    let wrong = put_wrong(out, beside, taken.wrong);
-    let counted = put_blocks(out, wrong, blocks);
-    frames_text::put_frames(out, counted, samples, marks)
 }
 
-// The lines of superframe k from a place on. They are put first where there is no room for them, to learn where they end.
+// The lines of superframe k from the pen's place on.
 pub fn put_superframe(
-    out: &mut [u8],
-    to: usize,
+    pen: &mut Pen<'_>,
     k: u32,
     taken: Taken,
     samples: &[i16],
     marks: &[u8],
-) -> Placed
-    ensures { entered result out.new ≡ entered_superframe (page out.old to) k taken samples.now marks.now }
+) -> Result<(), Refusal>
+    ensures same_buffer { pen.new.out.ghost_name ≡ pen.old.out.ghost_name }
+    ensures told { entered result (on pen.new) ≡ entered_superframe (on pen.old) k taken samples.now marks.now }
 {
-    if samples.len() != 2048 {
-        return Placed { number: 1, end: to };
+    if samples.len() != 2048 || marks.len() != 2048 {
+        return Err(Refusal::Length);
     }
-    if marks.len() != 2048 {
-        return Placed { number: 1, end: to };
-    }
-    let mut none = [0u8; 1];
-    let end = put_lines(&mut none, to, k, taken, samples, marks);
-    let placed = Placed::within(out.len(), to, end);
-    if placed.number != 0 {
-        return placed;
-    }
-    put_lines(out, to, k, taken, samples, marks);
-    placed
+    pen.put_whole(|pen| put_lines(pen, k, taken, samples, marks))
 }

@@ -1,34 +1,9 @@
--- `beside_text::put_far` meets its contract. Assumes nothing.
-use mathlib.Core.Path.{◌≡◌, refl}
-use native.Mathlib.Omega.{arith}
-use lib.ListN.{get_or}
-use Rattle.bits.specs.Letters.{letters}
-use Rattle.text.specs.Page.{page, put_text}
-use Rattle.text_rows.specs.Turns.{in_turn}
-use Rattle.text_rows.proofs.Turns.{turn_more, turn-line}
-use Rattle.beside_text.specs.Lines.{places_text, far_line}
+-- `put_far` meets its contract. Assumes nothing.
 use borrow.Author.Rules.{rules}
+use Rattle.bits.specs.Letters.{letters}
+use Rattle.beside_text.specs.Lines.{far_line}
 use Rattle.beside_text.proofs.put_far.Goals as goal
-
-pub loop-q-init : goal.loop-q-init
-unfolding in_turn put_text
-loop-q-init c = (search rules, search rules, refl)
-
-pub loop-q-preserved : goal.loop-q-preserved
-loop-q-preserved c =
-    let l = c.loop-q in
-    let word = c.put_all-end in
-    let start = c.args in (
-      search rules,
-      search rules,
-      turn_more (page word.new.out word.result) (page l.out l.end) _ (λ i. places_text (get_or start.numbers i 0) (get_or start.places i 0)) l.q l.invariant.2
-          c.put_places-end.ensures,
-    )
 
 pub returns : goal.returns
 unfolding far_line letters
-returns c =
-    let l = c.loop-q in
-    let word = c.put_all-end in
-    let all : l.q ≡ 16 = omega arith in
-    turn-line _ _ _ _ _ _ _ _ 16 all word.ensures l.invariant.2 c.put.ensures
+returns c = c.put_line.ensures _ (λ i p q l k. search rules)

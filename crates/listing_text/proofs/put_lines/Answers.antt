@@ -1,24 +1,17 @@
--- `listing_text::put_lines` meets its contract. Assumes nothing.
+-- `put_lines` meets its contract. Assumes nothing.
 use mathlib.Core.Path.{sym, ap, ◌∙◌}
-use Rattle.text.specs.Page.{page, put_text}
-use Rattle.reel.specs.Header.{header_answer}
-use Rattle.reel.specs.declared.HeaderRead.{HeaderRead}
 use Rattle.bits.specs.Letters.{letters}
-use Rattle.listing_text.specs.Listing.{listing}
+use Rattle.text.proofs.Pens.{puts_as}
+use Rattle.listing_text.specs.Listing.{line, listing}
+use Rattle.listing_text.proofs.Text.{refused-listing}
 use Rattle.listing_text.proofs.put_lines.Goals as goal
 
-pub returns-in-NoHeader : goal.returns-in-NoHeader
-unfolding listing letters
-returns-in-NoHeader c =
-    let start = c.args in
-    c.put_line.ensures
-    ∙ ap (λ (h : HeaderRead). put_text (page start.out.now start.to) (listing (header_answer h) start.totals))
-    (sym c.in-NoHeader.is)
-
-pub returns-in-Reel : goal.returns-in-Reel
+pub returns-in-Ok : goal.returns-in-Ok
 unfolding listing
-returns-in-Reel c =
-    let start = c.args in
-    c.put_totals.ensures
-    ∙ ap (λ (h : HeaderRead). put_text (page start.out.now start.to) (listing (header_answer h) start.totals))
-    (sym c.in-Reel.is)
+returns-in-Ok c = rw c.in-Ok.is c.put_totals.ensures
+
+pub returns-in-Err : goal.returns-in-Err
+unfolding letters
+returns-in-Err c =
+    rw c.in-Err.is
+    (puts_as (ap (line (letters "refused")) (c.from.ensures ∙ c.number.ensures) ∙ sym (refused-listing c.in-Err.refusal c.args.totals)) c.put_line.ensures)
