@@ -7,11 +7,15 @@
 --                       what stands beside a pair, and the two places, by what the search found
 --     three-here, three-on, three-over
 --                       three places: at the first place reached; from the next one on; at the end
+--     placed, unplaced, found_is, missed_is
+--                       a place that is found, as the code answers it, and one that is not
+--     apart-none, apart-some, two-none, two-some, three-some, three-none
+--                       the two places of a pair, and what comes of them, by what the code's search for a pair answers
 --     by-none, by_two, by_one, by-nowhere, by_three
 --                       the answers, by the remainder's ones, by what was found and by the radius
 --     even-low, odd_low     whether the remainder's ones are even in number, as the code counts them
 -- Assumes nothing.
-use mathlib.Core.Path.{◌≡◌, sym, ap, ◌∙◌, subst}
+use mathlib.Core.Path.{◌≡◌, refl, sym, ap, ap₂, ◌∙◌, subst}
 use mathlib.Core.Logic.{⊎_elim}
 use mathlib.Core.Bool.{Bool, true, false, cond}
 use mathlib.Core.List.{List, [], ◌∷◌}
@@ -20,18 +24,20 @@ use Prim.Native.Nat.{ℕ, zero, suc, ◌+◌, ◌-◌, ◌/◌, ◌%◌, ◌^◌
 use native.Mathlib.Nat.{eq-or-lt_of_le, le_of_suc-le-suc, mod-lt}
 use native.Mathlib.Numerals.{add-one}
 use native.Mathlib.Omega.{arith}
-use borrow.Author.Tests.{eqb-true, eqb-false, eq-eqb, ne_eqb, lt-ltb, le-ltb}
+use borrow.Author.Tests.{eqb-true, eqb-false, ltb-true, ltb-false, eq-eqb, ne_eqb, lt-ltb, le-ltb}
 use lib.Bits.{bit_xor}
 use lib.Count as Count
 use lib.Dec.{eqb, ltb}
 use lib.ListN.{length, get_or}
 use lib.Pow.{pow_pos}
+use Rattle.std.specs.declared.option.Option.TheVariants.{Some, None}
+use Rattle.std.proofs.lemmas.Option.{cond_some}
 use Rattle.bits.specs.Bits.{ones}
 use Rattle.bits.specs.Digits.{digits}
 use Rattle.bits.proofs.Digits.{digits_low}
 use Rattle.bits.proofs.Ones.{count-digits}
 use Rattle.bits.proofs.Tests.{either_way}
-use Rattle.lookup.specs.Search.{first_from, first_in, last_of, pair_of, pair_by, two_by, first_at, three_from, three_by, places_by}
+use Rattle.lookup.specs.Search.{first_from, first_in, last_of, pair_of, pair_by, two_by, first_at, three_from, three_by, places_by, place_in, apart}
 
 module _ (ts : List ℕ) (s : ℕ) where
   pub here : (k end : ℕ) → k < end → get_or ts k 0 ≡ s → first_from ts s k (end - k) ≡ k
@@ -160,6 +166,63 @@ module _ (singles pairs places starts : List ℕ) (s : ℕ) where
   pub three-over : (i : ℕ) → 63 ≤ i → from i (63 - i) ≡ none
   unfolding three_from
   three-over i h = let end : 63 - i ≡ 0 = omega arith in ap (from i) end
+
+-- ---- what the code answers
+unsome : {A : Type 0} (b : Bool) (x : A) → cond b (Some x) None ≡ None → b ≡ false
+unsome true x e = cc
+unsome false x e = refl
+
+module _ (n k : ℕ) where
+  pub placed : k < n → place_in n k ≡ Some k
+  placed h = rw (lt-ltb k n h)
+
+  pub unplaced : n ≤ k → place_in n k ≡ None
+  unplaced h = rw (le-ltb k n h)
+
+  pub found_is : (i : ℕ) → place_in n k ≡ Some i → (k < n) × (k ≡ i)
+  found_is i e = let h = cond_some (ltb k n) k i e in (ltb-true k n h.0, h.1)
+
+  pub missed_is : place_in n k ≡ None → n ≤ k
+  missed_is e = ltb-false k n (unsome (ltb k n) k e)
+
+module _ (x : ℕ) where
+  pub apart-none : x ≡ 0 → apart x ≡ None
+  apart-none e = ap apart e
+
+  pub apart-some : (x ≡ 0 → ⊥) → apart x ≡ Some (x / 64, x % 64)
+  apart-some e = rw (lt-ltb 0 x (omega (arith, e)))
+
+  none-zero : apart x ≡ None → x ≡ 0
+  none-zero e = let h = ltb-false 0 x (unsome (ltb 0 x) (x / 64, x % 64) e) in omega arith
+
+  some-apart : (i j : ℕ) → apart x ≡ Some (i, j) → (0 < x) × (x / 64 ≡ i) × (x % 64 ≡ j)
+  some-apart i j e =
+      let h = cond_some (ltb 0 x) (x / 64, x % 64) (i, j) e in
+      (ltb-true 0 x h.0, ap (λ (p : ℕ × ℕ). p.0) h.1, ap (λ (p : ℕ × ℕ). p.1) h.1)
+
+module _ (pairs places starts : List ℕ) (s : ℕ) where
+  pub two-none : apart (pair_by pairs places starts s) ≡ None → two_by pairs places starts s ≡ none
+  two-none e = two-away pairs places starts s (none-zero _ e)
+
+  pub two-some : (i j : ℕ) → apart (pair_by pairs places starts s) ≡ Some (i, j) → two_by pairs places starts s ≡ some (i ∷ j ∷ [])
+  two-some i j e =
+      let h = some-apart _ i j e in
+      two-there pairs places starts s (λ z. omega (arith, h.0)) ∙ ap₂ (λ (a b : ℕ). some (a ∷ b ∷ [])) h.1 h.2
+
+module _ (singles pairs places starts : List ℕ) (s i : ℕ) (l : i < 63) where
+  abbrev at : ℕ → Option (List ℕ)
+  at k = three_from singles pairs places starts s k (63 - k)
+
+  pub three-some : (j k : ℕ) → apart (both_at singles pairs places starts s i) ≡ Some (j, k) → i < j → at i ≡ some (i ∷ j ∷ k ∷ [])
+  three-some j k e m =
+      let h = some-apart _ j k e in
+      three-here singles pairs places starts s i l (omega (arith, h.1)) ∙ ap₂ (λ (a b : ℕ). some (i ∷ a ∷ b ∷ [])) h.1 h.2
+
+  pub three-other : (j k : ℕ) → apart (both_at singles pairs places starts s i) ≡ Some (j, k) → j ≤ i → at i ≡ at (i + 1)
+  three-other j k e m = let h = some-apart _ j k e in three-on singles pairs places starts s i l (omega (arith, h.1))
+
+  pub three-none : apart (both_at singles pairs places starts s i) ≡ None → at i ≡ at (i + 1)
+  three-none e = let z = none-zero _ e in three-on singles pairs places starts s i l (omega (arith, z))
 
 -- ---- the answers
 module _ (singles pairs places starts : List ℕ) (radius r : ℕ) where

@@ -3,9 +3,9 @@
 // the true ones those are the wrong places (proofs/Wrong.antt).
 #![tactic(auto)]
 
-ghost use Rattle.std.specs.Prelude.{◌≡◌, ◌%◌, ◌^◌};
+ghost use Rattle.std.specs.Prelude.{◌≡◌, ◌%◌, ◌^◌, length};
 ghost use Rattle.reading.specs.Wrong.{answer};
-ghost use Rattle.lookup.specs.Search.{first_in, last_of, pair_in, two_in, three_in, places_in, true_lookup};
+ghost use Rattle.lookup.specs.Search.{first_in, last_of, place_in, apart, pair_in, two_in, three_in, places_in, true_lookup};
 
 use pairs::Pairs;
 use reading::Places;
@@ -18,23 +18,21 @@ pub struct Lookup {
     pub pairs: Pairs,
 }
 
-// The first place from one to another at which a list holds a number, or the list's length.
-fn first_in(list: &[u32], number: u32, from: usize, to: usize) -> usize
-    ensures { result ≡ first_in list.now number from to }
+// The first place from one to another at which a list holds a number.
+fn first_in(list: &[u32], number: u32, from: usize, to: usize) -> Option<usize>
+    ensures { result ≡ place_in (length list.now) (first_in list.now number from to) }
 {
-    let n = list.len();
-    let end = if to < n { to } else { n };
-    for k in from..end {
+    for k in from..to.min(list.len()) {
         if list[k] == number {
-            return k;
+            return Some(k);
         }
     }
-    n
+    None
 }
 
-// The last of 63 places at which a list holds a number, or 63. The loop is not left early, so that it is compiled to a few wide comparisons.
-fn last_of(list: &[u32; 63], number: u32) -> usize
-    ensures { result ≡ last_of list.now number 63 }
+// The last of 63 places at which a list holds a number. The loop is not left early, so that it is compiled to a few wide comparisons.
+fn last_of(list: &[u32; 63], number: u32) -> Option<usize>
+    ensures { result ≡ place_in 63 (last_of list.now number 63) }
 {
     let mut at: usize = 63;
     for k in 0..63 {
@@ -42,7 +40,7 @@ fn last_of(list: &[u32; 63], number: u32) -> usize
             at = k;
         }
     }
-    at
+    if at < 63 { Some(at) } else { None }
 }
 
 impl Lookup {
@@ -56,30 +54,30 @@ impl Lookup {
         }
     }
 
-    // The two places of the pair that leaves a remainder, 64 times the first and the second, or 0.
-    fn pair(&self, remainder: u32) -> usize
-        ensures { result ≡ pair_in self.now (remainder % 2 ^ 19) }
+    // The two places of the pair that leaves a remainder.
+    fn pair(&self, remainder: u32) -> Option<(usize, usize)>
+        ensures { result ≡ apart (pair_in self.now (remainder % 2 ^ 19)) }
     {
         let low = remainder % 524288;
         let upper = (low / 2048) as usize;
         let from = usize::from(self.pairs.starts[upper]);
         let to = usize::from(self.pairs.starts[upper + 1]);
-        let at = first_in(&self.pairs.remainders, low, from, to);
-        if at < 1953 {
-            usize::from(self.pairs.places[at])
+        let at = first_in(&self.pairs.remainders, low, from, to)?;
+        let both = usize::from(self.pairs.places[at]);
+        if both == 0 {
+            None
         } else {
-            0
+            Some((both / 64, both % 64))
         }
     }
 
     fn two(&self, remainder: u32) -> Places
         ensures { answer result ≡ two_in self.now (remainder % 2 ^ 19) }
     {
-        let both = self.pair(remainder);
-        if both == 0 {
-            return Places::Nowhere;
+        match self.pair(remainder) {
+            Some((i, j)) => Places::Two(i, j),
+            None => Places::Nowhere,
         }
-        Places::Two(both / 64, both % 64)
     }
 
     // For each first place the pair behind it that leaves the rest.
@@ -87,9 +85,10 @@ impl Lookup {
         ensures { answer result ≡ three_in self.now remainder }
     {
         for i in 0..63 {
-            let both = self.pair(remainder ^ self.singles[i]);
-            if i < both / 64 {
-                return Places::Three(i, both / 64, both % 64);
+            if let Some((j, k)) = self.pair(remainder ^ self.singles[i]) {
+                if i < j {
+                    return Places::Three(i, j, k);
+                }
             }
         }
         Places::Nowhere
@@ -107,9 +106,8 @@ impl Lookup {
         if low.count_ones() % 2 == 0 {
             return self.two(low);
         }
-        let one = last_of(&self.singles, low);
-        if one < 63 {
-            return Places::One(one);
+        if let Some(i) = last_of(&self.singles, low) {
+            return Places::One(i);
         }
         if radius < 3 {
             return Places::Nowhere;

@@ -1,42 +1,46 @@
 -- `lookup::first_in` meets its contract. The loop's invariant: what is to be found is found from the place reached on. Assumes nothing.
-use mathlib.Core.Path.{refl, sym, ap, ◌∙◌}
-use mathlib.Core.Bool.{Bool, cond}
-use Prim.Native.Nat.{ℕ, ◌-◌}
+use mathlib.Core.Path.{◌≡◌, sym, ap, ◌∙◌}
+use mathlib.Core.Bool.{cond}
+use mathlib.Core.List.{List}
+use Prim.Native.Nat.{ℕ, ◌-◌, min}
 use native.Mathlib.Omega.{arith}
+use lib.Dec.{ltb}
 use lib.ListN.{length}
-use borrow.Author.Tests.{lt-ltb, le-ltb}
+use borrow.Author.Tests.{ltb-true, ltb-false}
 use borrow.Author.Rules.{rules}
-use Rattle.lookup.specs.Search.{first_from, first_in}
-use Rattle.lookup.proofs.Search.{here, on, over}
+use Rattle.bits.proofs.Tests.{either_way}
+use Rattle.lookup.specs.Search.{first_from, first_in, place_in}
+use Rattle.lookup.proofs.Search.{here, on, over, placed, unplaced}
 use Rattle.lookup.proofs.first_in.Goals as goal
-use Rattle.lookup.proofs.first_in.Goals.{then-to-n, else-to-n}
 
-pub loop-k-init : goal.loop-k-init
-loop-k-init c =
-    let to = c.args.to in
-    let n = length c.args.list.now in
-    elim c.if-to-n.branch [ then-to-n w ↦ (omega (arith, w.if-to-n.true, w.end-is), w.end-is ∙ sym (ap (λ (b : Bool). cond b to n) (lt-ltb to n w.if-to-n.true)), refl) | else-to-n w ↦ (omega (arith, w.end-is), w.end-is ∙ sym (ap (λ (b : Bool). cond b to n) (le-ltb to n w.if-to-n.false)), refl) ]
+-- the place to stop at is the smaller of two
+smaller : (a b : ℕ) → min a b ≡ cond (ltb a b) a b
+smaller a b =
+    either_way (ltb a b)
+    (λ t. rw t (let h = ltb-true a b t in omega arith))
+    (λ t. rw t (let h = ltb-false a b t in omega arith))
+
+whole : (list : List ℕ) (number from to end : ℕ) → end ≡ min to (length list) → first_from list number from (end - from) ≡ first_in list number from to
+unfolding first_in
+whole list number from to end e = ap (λ (n : ℕ). first_from list number from (n - from)) (e ∙ smaller to (length list))
 
 pub returns-then-list-k : goal.returns-then-list-k
-unfolding first_in
 returns-then-list-k c =
     let list = c.args.list.now in
-    let from = c.args.from in
-    let number = c.args.number in
-    sym (here list number c.loop-k.k c.if-to-n.end (search rules) c.if-list-k.true)
-    ∙ c.loop-k.invariant.2 ∙ ap (λ (e : ℕ). first_from list number from (e - from)) c.loop-k.invariant.1
+    let end : c.min-k-end.result ≡ min c.args.to (length list) = search rules in
+    sym
+    (ap (place_in (length list))
+    (sym (whole list c.args.number c.args.from c.args.to _ end) ∙ sym c.loop-k.invariant ∙ here list c.args.number c.loop-k.k _ (search rules) c.if-list-k.true)
+    ∙ placed _ _ (omega (arith, end)))
 
 pub loop-k-preserved : goal.loop-k-preserved
-loop-k-preserved c =
-    let list = c.args.list.now in
-    let number = c.args.number in
-    (c.loop-k.invariant.0, c.loop-k.invariant.1, sym (on list number c.loop-k.k c.if-to-n.end (search rules) c.if-list-k.false) ∙ c.loop-k.invariant.2)
+loop-k-preserved c = sym (on c.args.list.now c.args.number c.loop-k.k _ (search rules) c.if-list-k.false) ∙ c.loop-k.invariant
 
 pub returns : goal.returns
-unfolding first_in
 returns c =
     let list = c.args.list.now in
-    let from = c.args.from in
-    let number = c.args.number in
-    sym (over list number c.loop-k.k c.if-to-n.end (search rules))
-    ∙ c.loop-k.invariant.2 ∙ ap (λ (e : ℕ). first_from list number from (e - from)) c.loop-k.invariant.1
+    let end : c.min-k-end.result ≡ min c.args.to (length list) = search rules in
+    sym
+    (ap (place_in (length list))
+    (sym (whole list c.args.number c.args.from c.args.to _ end) ∙ sym c.loop-k.invariant ∙ over list c.args.number c.loop-k.k _ (search rules))
+    ∙ unplaced _ _ (omega arith))

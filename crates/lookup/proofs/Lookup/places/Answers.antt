@@ -7,7 +7,7 @@ use native.Mathlib.Nat.{mod-lt, mod-eq_of_lt}
 use lib.Pow.{pow_pos}
 use Rattle.reading.specs.Wrong.{answer}
 use Rattle.lookup.specs.Search.{last_of, two_by}
-use Rattle.lookup.proofs.Search.{by-none, by_two, by_one, by-nowhere, by_three, even-low, odd_low}
+use Rattle.lookup.proofs.Search.{by-none, by_two, by_one, by-nowhere, by_three, even-low, odd_low, found_is, missed_is}
 use Rattle.lookup.proofs.Lookup.places.Goals as goal
 
 pub returns-then-low-eq0 : goal.returns-then-low-eq0
@@ -21,24 +21,24 @@ returns-then-low-eq0-2 c =
     ∙ ap (two_by _ _ _) (mod-eq_of_lt (mod-lt r (pow_pos 19)))
     ∙ sym (by_two _ _ _ _ _ r c.if-low-eq0.false (even-low r c.if-low-eq0-2.true))
 
-pub returns-then-one-lt63 : goal.returns-then-one-lt63
+pub returns-in-Some : goal.returns-in-Some
 unfolding answer
-returns-then-one-lt63 c =
+returns-in-Some c =
     let r = c.args.remainder in
-    let is = c.last_of-one.ensures in
-    ap (λ (n : ℕ). some (n ∷ [])) is
-    ∙ sym (by_one _ _ _ _ _ r c.if-low-eq0.false (odd_low r c.if-low-eq0-2.false) (rw is at c.if-one-lt63.true))
+    let found = found_is 63 _ _ (sym c.last_of.ensures ∙ c.in-Some.is) in
+    ap (λ (n : ℕ). some (n ∷ [])) (sym found.1)
+    ∙ sym (by_one _ _ _ _ _ r c.if-low-eq0.false (odd_low r c.if-low-eq0-2.false) found.0)
 
 pub returns-then-radius-lt3 : goal.returns-then-radius-lt3
 unfolding answer
 returns-then-radius-lt3 c =
     let r = c.args.remainder in
-    let none-alone : 63 ≤ last_of _ (r % 2 ^ 19) 63 = rw c.last_of-one.ensures at c.if-one-lt63.false in
+    let none-alone : 63 ≤ last_of _ (r % 2 ^ 19) 63 = missed_is 63 _ (sym c.last_of.ensures ∙ c.in_default.is) in
     sym (by-nowhere _ _ _ _ _ r c.if-low-eq0.false (odd_low r c.if-low-eq0-2.false) none-alone c.if-radius-lt3.true)
 
 pub returns : goal.returns
 returns c =
     let r = c.args.remainder in
-    let none-alone : 63 ≤ last_of _ (r % 2 ^ 19) 63 = rw c.last_of-one.ensures at c.if-one-lt63.false in
+    let none-alone : 63 ≤ last_of _ (r % 2 ^ 19) 63 = missed_is 63 _ (sym c.last_of.ensures ∙ c.in_default.is) in
     c.three.ensures
     ∙ sym (by_three _ _ _ _ _ r c.if-low-eq0.false (odd_low r c.if-low-eq0-2.false) none-alone c.if-radius-lt3.false)

@@ -1,18 +1,13 @@
 -- `lookup::Lookup::two` meets its contract. Assumes nothing.
-use mathlib.Core.Path.{sym, ap, ◌∙◌}
-use mathlib.Core.List.{[], ◌∷◌}
-use mathlib.Core.Option.{some}
-use Prim.Native.Nat.{ℕ, ◌/◌, ◌%◌}
+use mathlib.Core.Path.{sym, ◌∙◌}
 use Rattle.reading.specs.Wrong.{answer}
-use Rattle.lookup.proofs.Search.{two-away, two-there}
+use Rattle.lookup.proofs.Search.{two-none, two-some}
 use Rattle.lookup.proofs.Lookup.two.Goals as goal
 
-pub returns-then-both-eq0 : goal.returns-then-both-eq0
+pub returns-in-Some : goal.returns-in-Some
 unfolding answer
-returns-then-both-eq0 c = sym (two-away _ _ _ _ (sym c.pair-both.ensures ∙ c.if-both-eq0.true))
+returns-in-Some c = sym (two-some _ _ _ _ _ _ (sym c.pair.ensures ∙ c.in-Some.is))
 
-pub returns : goal.returns
+pub returns-in-None : goal.returns-in-None
 unfolding answer
-returns c =
-    ap (λ (b : ℕ). some (b / 64 ∷ b % 64 ∷ [])) c.pair-both.ensures
-    ∙ sym (two-there _ _ _ _ (λ e. c.if-both-eq0.false (c.pair-both.ensures ∙ e)))
+returns-in-None c = sym (two-none _ _ _ _ (sym c.pair.ensures ∙ c.in-None.is))
