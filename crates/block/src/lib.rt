@@ -25,6 +25,7 @@ pub struct BlockRead {
     pub bits: [u8; 77],
 }
 
+#[tactic(auto, unfolding(reading::specs::Wrong::turn))]
 fn turned(bits: [u8; 77], place: usize) -> [u8; 77]
     requires { place < 77 }
     ensures { result ≡ turn bits place }

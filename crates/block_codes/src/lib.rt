@@ -56,6 +56,7 @@ fn all_codes(bits: [u8; 77]) -> [i16; 4]
     std::array::from_fn(|channel| code_at(bits, channel))
 }
 
+#[tactic(auto, unfolding(crate::specs::Codes::codes_of))]
 pub fn codes_of(bits: [u8; 77]) -> Result<BlockCodes, Refusal>
     ensures { result ≡ codes_of bits }
 {

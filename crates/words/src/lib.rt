@@ -44,6 +44,7 @@ fn word_of(bits: [u8; 77]) -> u64
 }
 
 // The digit of a place turned. There are 63 places.
+#[tactic(auto, unfolding(crate::specs::Words::turned_at))]
 fn turned(word: u64, place: usize) -> u64
     ensures { result ≡ turned_at word place }
 {
@@ -54,6 +55,13 @@ fn turned(word: u64, place: usize) -> u64
     }
 }
 
+#[tactic(auto, unfolding(
+    crate::specs::Words::righted,
+    crate::specs::Words::mended_by,
+    crate::specs::Words::mark_by,
+    crate::specs::Words::turned_all,
+    reading::specs::Wrong::answer
+))]
 fn mended(word: u64, places: Places) -> Righted
     ensures { result ≡ righted word (answer places) }
 {

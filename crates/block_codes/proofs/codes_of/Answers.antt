@@ -19,16 +19,6 @@ last-two l n e =
     let two : suc n < length l = omega arith in
     drop-cons l n 0 one ∙ rw (drop-cons l (suc n) 0 two, drop_of_length-le l {i = suc (suc n)} (omega arith), ← add-one n)
 
-pub returns-then-not-are_bits : goal.returns-then-not-are_bits
-unfolding codes_of
-returns-then-not-are_bits c =
-    let no' : are_bits c.args.bits ≡ false = sym c.are_bits.ensures ∙ c.if-not-are_bits.true in
-    rw no'
-
-pub all_codes-requires : goal.all_codes-requires
-all_codes-requires c =
-    let allowed : are_bits c.args.bits ≡ true = sym c.are_bits.ensures ∙ c.if-not-are_bits.false in allowed
-
 pub returns : goal.returns
 unfolding codes_of extra_at
 returns c =

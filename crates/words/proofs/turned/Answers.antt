@@ -15,7 +15,3 @@ returns-then-place-lt63 c =
     let p = c.args.place in
     rw (lt-ltb _ _ c.if-place-lt63.true)
     (ap (bit_xor c.args.word) (ap (λ (n : ℕ). n % 2 ^ 64) (one-mul (2 ^ (62 - p))) ∙ mod-eq_of_lt (pow-lt {i = 62 - p} {j = 64} (omega arith))))
-
-pub returns-else-place-lt63 : goal.returns-else-place-lt63
-unfolding turned_at
-returns-else-place-lt63 c = rw (le-ltb _ _ c.if-place-lt63.false)
