@@ -11,13 +11,18 @@
 --     added_to totals counts     the blocks of each programme with those of a superframe more: position b of the eight carries programmes 2b-1 and 2b
 --     with_taken t b, with_lost t     the totals after a superframe taken, with its blocks counted as b, and after a lost one: it "adds to the lost number only"
 --     step_number t          what one superframe more is refused with: 2 for totals out of range, then 9 for a full history, else 0
---     stepped_to t next      what is answered: 0 and the next totals, or that number and the totals as given
+--     allowed t              the same as an answer
+--     after a next           what comes next, where nothing is refused
+--     stepped_to t next      what is answered: the next totals, or that refusal; the totals as given stay with whoever gave them
 --     taken_step t b, lost_step t     so for a superframe taken, and for a lost one
 use Rattle.std.specs.Prelude.{ℕ, ◌+◌, ◌*◌, ◌/◌, ◌<◌, ◌≤◌, Bool, false, cond, List, eqb, leb, ltb, get_or}
+use Rattle.std.specs.declared.result.Result.{Result}
+use Rattle.std.specs.declared.result.Result.TheVariants.{Ok, Err}
+use Rattle.bits.specs.declared.refusal.Refusal.{Refusal}
+use Rattle.bits.specs.declared.refusal.Refusal.TheVariants.{Range, Full}
 use Rattle.bits.specs.Table.{tabulate, every, zeros}
 use Rattle.tape.specs.declared.blocks.Blocks.{Blocks}
 use Rattle.running.specs.declared.Running.{Running}
-use Rattle.running.specs.declared.Step.{Step}
 
 unfoldable pub adds_up : ℕ → ℕ → ℕ → ℕ → Bool
 adds_up clean mended bad taken = eqb (clean + mended + bad) (64 * taken)
@@ -65,11 +70,18 @@ with_lost t = record { taken = t.taken; lost = t.lost + 1; clean = t.clean; mend
 unfoldable pub step_number : Running → ℕ
 step_number t = cond (running_in_range t) (cond (has_room t) 0 9) 2
 
-unfoldable pub stepped_to : Running → Running → Step
-stepped_to t next = cond (eqb (step_number t) 0) (record { number = 0; next = next }) (record { number = step_number t; next = t })
+unfoldable pub allowed : Running → Result (Unit {0}) Refusal
+allowed t = cond (running_in_range t) (cond (has_room t) (Ok tt) (Err Full)) (Err Range)
 
-unfoldable pub taken_step : Running → Blocks → Step
+abbrev pub after : Result (Unit {0}) Refusal → Running → Result Running Refusal
+after (Ok _) next = Ok next
+after (Err e) next = Err e
+
+unfoldable pub stepped_to : Running → Running → Result Running Refusal
+stepped_to t next = after (allowed t) next
+
+unfoldable pub taken_step : Running → Blocks → Result Running Refusal
 taken_step t b = stepped_to t (with_taken t b)
 
-unfoldable pub lost_step : Running → Step
+unfoldable pub lost_step : Running → Result Running Refusal
 lost_step t = stepped_to t (with_lost t)

@@ -3,8 +3,9 @@
 #![tactic(auto)]
 
 ghost use Rattle.std.specs.Prelude.{◌≡◌};
-ghost use Rattle.running.specs.Running.{adds_up, sums_fit, given_in, running_in_range, has_room, no_running, Bounded, added_to, step_number, taken_step, lost_step};
+ghost use Rattle.running.specs.Running.{adds_up, sums_fit, given_in, running_in_range, has_room, no_running, Bounded, added_to, allowed, taken_step, lost_step};
 
+use bits::Refusal;
 use tape::Blocks;
 
 #[derive(Clone, Copy)]
@@ -19,13 +20,6 @@ pub struct Running {
     pub bad: [u32; 16],
 }
 
-// Number 0 and the totals that follow; or 2 for totals out of range, 9 for a full history, and the totals as given.
-#[derive(Clone, Copy)]
-pub struct Step {
-    pub number: u8,
-    pub next: Running,
-}
-
 // A history holds so many superframes.
 const MOST: u64 = 1_000_000;
 
@@ -33,21 +27,21 @@ const MOST: u64 = 1_000_000;
 fn adds_up(clean: u32, mended: u32, bad: u32, taken: u32) -> bool
     ensures { result ≡ adds_up clean mended bad taken }
 {
-    clean as u64 + mended as u64 + bad as u64 == 64 * taken as u64
+    u64::from(clean) + u64::from(mended) + u64::from(bad) == 64 * u64::from(taken)
 }
 
 fn sums_fit(totals: Running) -> bool
     ensures { result ≡ sums_fit totals }
 {
-    let clean = totals.clean;
-    let mended = totals.mended;
-    let bad = totals.bad;
-    let mut q: usize = 0;
-    while q < 16 {
-        if !adds_up(clean[q], mended[q], bad[q], totals.taken) {
+    for q in 0..16 {
+        if !adds_up(
+            totals.clean[q],
+            totals.mended[q],
+            totals.bad[q],
+            totals.taken,
+        ) {
             return false;
         }
-        q += 1;
     }
     true
 }
@@ -55,7 +49,7 @@ fn sums_fit(totals: Running) -> bool
 fn given(taken: u32, lost: u32) -> u64
     ensures { result ≡ given_in taken lost }
 {
-    taken as u64 + lost as u64
+    u64::from(taken) + u64::from(lost)
 }
 
 // The blocks of each programme with those of a superframe more, which are counted by the eight block positions.
@@ -64,10 +58,8 @@ fn added(totals: [u32; 16], counts: [u8; 8]) -> [u32; 16]
     ensures { result ≡ added_to totals counts }
 {
     let mut out = [0u32; 16];
-    let mut q: usize = 0;
-    while q < 16 {
-        out[q] = totals[q] + bits::wide(counts[q / 2]);
-        q += 1;
+    for q in 0..16 {
+        out[q] = totals[q] + u32::from(counts[q / 2]);
     }
     out
 }
@@ -89,10 +81,7 @@ impl Running {
     pub fn in_range(self) -> bool
         ensures { result ≡ running_in_range self }
     {
-        if sums_fit(self) {
-            return given(self.taken, self.lost) <= MOST;
-        }
-        false
+        sums_fit(self) && given(self.taken, self.lost) <= MOST
     }
 
     // Whether the history is not full.
@@ -102,58 +91,41 @@ impl Running {
         given(self.taken, self.lost) < MOST
     }
 
-    // What one superframe more is refused with, or 0.
-    fn number(self) -> u8
-        ensures { result ≡ step_number self }
+    // Whether one superframe more may be given: totals out of range are refused, then a full history.
+    fn allowed(self) -> Result<(), Refusal>
+        ensures { result ≡ allowed self }
     {
         if !self.in_range() {
-            return 2;
+            return Err(Refusal::Range);
         }
-        if self.has_room() { 0 } else { 9 }
+        if !self.has_room() {
+            return Err(Refusal::Full);
+        }
+        Ok(())
     }
 
     // A superframe taken, with its blocks counted by position.
-    pub fn take(self, blocks: Blocks) -> Step
+    pub fn take(self, blocks: Blocks) -> Result<Running, Refusal>
         ensures { result ≡ taken_step self blocks }
     {
-        let number = self.number();
-        if number != 0 {
-            return Step { number, next: self };
-        }
-        let clean = self.clean;
-        let mended = self.mended;
-        let bad = self.bad;
-        let more_clean = blocks.clean;
-        let more_mended = blocks.mended;
-        let more_bad = blocks.bad;
-        let next = Running {
+        self.allowed()?;
+        Ok(Running {
             taken: self.taken + 1,
             lost: self.lost,
-            clean: added(clean, more_clean),
-            mended: added(mended, more_mended),
-            bad: added(bad, more_bad),
-        };
-        Step { number: 0, next }
+            clean: added(self.clean, blocks.clean),
+            mended: added(self.mended, blocks.mended),
+            bad: added(self.bad, blocks.bad),
+        })
     }
 
     // A superframe lost.
-    pub fn lose(self) -> Step
+    pub fn lose(self) -> Result<Running, Refusal>
         ensures { result ≡ lost_step self }
     {
-        let number = self.number();
-        if number != 0 {
-            return Step { number, next: self };
-        }
-        let clean = self.clean;
-        let mended = self.mended;
-        let bad = self.bad;
-        let next = Running {
-            taken: self.taken,
+        self.allowed()?;
+        Ok(Running {
             lost: self.lost + 1,
-            clean,
-            mended,
-            bad,
-        };
-        Step { number: 0, next }
+            ..self
+        })
     }
 }

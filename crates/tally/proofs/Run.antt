@@ -11,11 +11,14 @@ use native.Mathlib.Omega.{arith}
 use borrow.Author.Tests.{eq-eqb, eqb-true}
 use lib.Dec.{eqb}
 use lib.ListN.{length}
+use Rattle.std.specs.Result.{result_unwrap_or}
+use Rattle.std.specs.declared.result.Result.{Result}
+use Rattle.bits.specs.declared.refusal.Refusal.{Refusal}
 use Rattle.bits.specs.Table.{total}
 use Rattle.bits.proofs.Tests.{either_way}
 use Rattle.reel.specs.Header.{most_superframes}
 use Rattle.reading.specs.Reading.{ordinary}
-use Rattle.tape.specs.Tape.{synced, kind_in, blocks_of, no_blocks, refused_counts, counted_with, sync_number, counts_of}
+use Rattle.tape.specs.Tape.{synced, kind_in, blocks_of, no_blocks, counted_with, syncs_added, syncs_of, counts_of}
 use Rattle.tally.specs.Totals.{grown, sum_of, no_totals, with_counted, added_to, step_of, listed_with, stepped, totals_from, totals_of}
 use Rattle.tally.specs.Reel.{is_lost, sync_in, blocks_with, counted, Superframes}
 use Rattle.tape.proofs.Wrong.{wrong-most}
@@ -60,7 +63,7 @@ same-totals : (a b w c d e a' b' w' c' d' e' : ℕ) → a ≡ a' → b ≡ b' �
 same-totals a b w c d e a' b' w' c' d' e' p q v r s t = rw (p, q, v, r, s, t) refl
 
 with_one : (t : Totals) (sf : List ℕ) → length sf ≡ 5120 →
-    (added_to t (counts_of sf)).next ≡
+    result_unwrap_or (added_to t (counts_of sf)) t ≡
     record {
       superframes = grown t.superframes 1;
       lost = grown t.lost (is_lost sf);
@@ -69,7 +72,7 @@ with_one : (t : Totals) (sf : List ℕ) → length sf ≡ 5120 →
       mended = grown t.mended (blocks_with 1 sf);
       bad = grown t.bad (blocks_with 2 sf);
     }
-unfolding added_to with_counted counts_of sync_number counted_with refused_counts is_lost sync_in blocks_with blocks_of kind_in no_blocks sum_of
+unfolding added_to with_counted counts_of syncs_of syncs_added is_lost sync_in blocks_with blocks_of kind_in no_blocks sum_of
 with_one t sf l =
     rw (eq-eqb (length sf) 5120 l)
     (either_way (synced sf)
@@ -131,9 +134,9 @@ unfolding total
 blocks-counted [] = refl
 blocks-counted (sf ∷ sfs) = let h = blocks-counted sfs in let w = blocks-whole sf in omega (arith, h, w)
 
-pub listed-ordinary : (t : Totals) (radius : ℕ) (c : Counted) (sf : List ℕ) → c ≡ counted_with radius (sync_number sf) sf → listed_with t radius c sf ≡ step_of t sf
+pub listed-ordinary : (t : Totals) (radius : ℕ) (c : Result Counted Refusal) (sf : List ℕ) → c ≡ counted_with radius (syncs_of sf) sf → listed_with t radius c sf ≡ step_of t sf
 unfolding listed_with step_of counts_of
 listed-ordinary t radius c sf e =
     either_way (eqb radius ordinary)
-    (λ u. rw u (ap (added_to t) (e ∙ ap (λ (r : ℕ). counted_with r (sync_number sf) sf) (eqb-true radius ordinary u))))
+    (λ u. rw u (ap (added_to t) (e ∙ ap (λ (r : ℕ). counted_with r (syncs_of sf) sf) (eqb-true radius ordinary u))))
     (λ u. rw u)

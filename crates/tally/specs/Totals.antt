@@ -4,17 +4,20 @@
 --     no_totals              before the first superframe
 --     with_counted t c       after one superframe more, by what was counted in it: it is read, perhaps lost, bits of its syncs are wrong, and its blocks are
 --                           clean, mended or bad
---     is_counted n           whether a superframe counted under a number is one more: number 0, and 3 for a lost one. The listing goes on after it
---     added_to t c           what is answered: 0 and the totals with it, or the number of what is none and the totals as they were
+--     added_to t c           what is answered: the totals with it, where it was counted or is a lost one, or what it was refused for
 --     step_of t sf           the same for a superframe by its bytes
---     stepped t sf          the totals after it
+--     stepped t sf          the totals after it: those before it where it is refused
 --     listed_with t radius c sf      the same for a superframe that was taken at a radius, with c counted there: that, at the ordinary one, and else by its bytes
 --     totals_of sfs          after all of some superframes, in order
-use Rattle.std.specs.Prelude.{ℕ, ◌+◌, ◌-◌, ◌^◌, min, Bool, true, cond, List, [], ◌∷◌, eqb}
+use Rattle.std.specs.Prelude.{ℕ, ◌+◌, ◌-◌, ◌^◌, min, cond, List, [], ◌∷◌, eqb}
+use Rattle.std.specs.Result.{result_unwrap_or}
+use Rattle.std.specs.declared.result.Result.{Result}
+use Rattle.std.specs.declared.result.Result.TheVariants.{Ok, Err}
+use Rattle.bits.specs.Refused.{number_of, number_in}
+use Rattle.bits.specs.declared.refusal.Refusal.{Refusal}
 use Rattle.reading.specs.Reading.{ordinary}
-use Rattle.tape.specs.Tape.{counts_of}
+use Rattle.tape.specs.Tape.{wrong_told, blocks_told, counts_of}
 use Rattle.tape.specs.declared.blocks.Counted.{Counted}
-use Rattle.tally.specs.declared.Step.{Step}
 use Rattle.tally.specs.declared.Totals.{Totals}
 
 unfoldable pub grown : ℕ → ℕ → ℕ
@@ -28,31 +31,29 @@ unfoldable pub no_totals : Totals
 no_totals = record { superframes = 0; lost = 0; wrong = 0; clean = 0; mended = 0; bad = 0 }
 
 -- a lost superframe has no wrong bit and no block that counts
-unfoldable pub with_counted : Totals → Counted → Totals
+unfoldable pub with_counted : Totals → Result Counted Refusal → Totals
 with_counted t c =
     record {
       superframes = grown t.superframes 1;
-      lost = grown t.lost (cond (eqb c.number 3) 1 0);
-      wrong = grown t.wrong c.wrong;
-      clean = grown t.clean (sum_of c.blocks.clean);
-      mended = grown t.mended (sum_of c.blocks.mended);
-      bad = grown t.bad (sum_of c.blocks.bad);
+      lost = grown t.lost (cond (eqb (number_in c) 3) 1 0);
+      wrong = grown t.wrong (wrong_told c);
+      clean = grown t.clean (sum_of (blocks_told c).clean);
+      mended = grown t.mended (sum_of (blocks_told c).mended);
+      bad = grown t.bad (sum_of (blocks_told c).bad);
     }
 
-abbrev pub is_counted : ℕ → Bool
-is_counted n = cond (eqb n 0) true (eqb n 3)
+unfoldable pub added_to : Totals → Result Counted Refusal → Result Totals Refusal
+added_to t (Ok c) = Ok (with_counted t (Ok c))
+added_to t (Err e) = cond (eqb (number_of e) 3) (Ok (with_counted t (Err e))) (Err e)
 
-unfoldable pub added_to : Totals → Counted → Step
-added_to t c = cond (is_counted c.number) (record { number = 0; next = with_counted t c }) (record { number = c.number; next = t })
-
-unfoldable pub step_of : Totals → List ℕ → Step
+unfoldable pub step_of : Totals → List ℕ → Result Totals Refusal
 step_of t sf = added_to t (counts_of sf)
 
-unfoldable pub listed_with : Totals → ℕ → Counted → List ℕ → Step
+unfoldable pub listed_with : Totals → ℕ → Result Counted Refusal → List ℕ → Result Totals Refusal
 listed_with t radius c sf = cond (eqb radius ordinary) (added_to t c) (step_of t sf)
 
 abbrev pub stepped : Totals → List ℕ → Totals
-stepped t sf = (step_of t sf).next
+stepped t sf = result_unwrap_or (step_of t sf) t
 
 unfoldable pub totals_from : Totals → List (List ℕ) → Totals
 totals_from t [] = t

@@ -2,8 +2,10 @@
 #![tactic(auto)]
 
 ghost use Rattle.std.specs.Prelude.{◌≡◌};
-ghost use Rattle.tally.specs.Totals.{grown, is_counted, sum_of, no_totals, added_to, step_of, listed_with};
+ghost use Rattle.bits.specs.declared.refusal.Refusal.TheVariants.{Sync};
+ghost use Rattle.tally.specs.Totals.{grown, sum_of, no_totals, with_counted, added_to, step_of, listed_with};
 
+use bits::Refusal;
 use tape::Counted;
 
 #[derive(Clone, Copy)]
@@ -19,31 +21,12 @@ pub struct Totals {
     pub bad: u64,
 }
 
-// What one superframe more answers: number 0 with the totals after it, or the number of what is none with the totals as they were.
-#[derive(Clone, Copy)]
-pub struct Step {
-    pub number: u8,
-    pub next: Totals,
-}
-
 // A total stops at the largest number that it can hold, which no reel comes near.
+#[tactic(auto, unfolding(crate::specs::Totals::grown))]
 fn grow(total: u64, by: u64) -> u64
     ensures { result ≡ grown total by }
 {
-    if u64::MAX - total < by {
-        return u64::MAX;
-    }
-    total + by
-}
-
-// Whether there is a superframe under a number: under 0, and under 3 a lost one.
-fn is_counted(number: u8) -> bool
-    ensures { result ≡ is_counted number }
-{
-    if number == 0 {
-        return true;
-    }
-    number == 3
+    total.saturating_add(by)
 }
 
 // Of the counts of the eight block positions.
@@ -51,10 +34,8 @@ pub fn sum(counts: [u8; 8]) -> u64
     ensures { result ≡ sum_of counts }
 {
     let mut sum: u64 = 0;
-    let mut p: usize = 0;
-    while p < 8 {
-        sum += bits::wide(counts[p]) as u64;
-        p += 1;
+    for &n in &counts {
+        sum += u64::from(n);
     }
     sum
 }
@@ -74,33 +55,52 @@ impl Totals {
         }
     }
 
-    // One superframe more, by what was counted in it. A lost one is counted, and is no refusal; under any other number there is nothing to add.
-    pub fn add(self, counted: Counted) -> Step
+    // A lost superframe more: it has no wrong bit and no block that counts.
+    fn with_lost(self) -> Totals
+        ensures { result ≡ with_counted self (Err Sync) }
+    {
+        Totals {
+            superframes: grow(self.superframes, 1),
+            lost: grow(self.lost, 1),
+            ..self
+        }
+    }
+
+    // A superframe more that was read.
+    fn with_read(self, counted: Counted) -> Totals
+        ensures { result ≡ with_counted self (Ok counted) }
+    {
+        Totals {
+            superframes: grow(self.superframes, 1),
+            lost: self.lost,
+            wrong: grow(self.wrong, u64::from(counted.wrong)),
+            clean: grow(self.clean, sum(counted.blocks.clean)),
+            mended: grow(self.mended, sum(counted.blocks.mended)),
+            bad: grow(self.bad, sum(counted.blocks.bad)),
+        }
+    }
+
+    // One superframe more, by what was counted in it. A lost one is counted, and is no refusal; what is refused for anything else is none to add.
+    pub fn add(self, counted: Result<Counted, Refusal>) -> Result<Totals, Refusal>
         ensures { result ≡ added_to self counted }
     {
-        let number = counted.number;
-        if !is_counted(number) {
-            return Step { number, next: self };
+        match counted {
+            Ok(counted) => Ok(self.with_read(counted)),
+            Err(why) => match why {
+                Refusal::Sync => Ok(self.with_lost()),
+                _ => Err(why),
+            },
         }
-        let lost = if number == 3 { 1 } else { 0 };
-        let blocks = counted.blocks;
-        let clean = blocks.clean;
-        let mended = blocks.mended;
-        let bad = blocks.bad;
-        let next = Totals {
-            superframes: grow(self.superframes, 1),
-            lost: grow(self.lost, lost),
-            wrong: grow(self.wrong, counted.wrong as u64),
-            clean: grow(self.clean, sum(clean)),
-            mended: grow(self.mended, sum(mended)),
-            bad: grow(self.bad, sum(bad)),
-        };
-        Step { number: 0, next }
     }
 
     // One superframe more that was taken at a radius, by what was counted in it there and by its bytes: the listing counts the ordinary readings.
     #[tactic(auto, unfolding(crate::specs::Totals::listed_with))]
-    pub fn list(self, radius: u8, counted: Counted, superframe: &[u8]) -> Step
+    pub fn list(
+        self,
+        radius: u8,
+        counted: Result<Counted, Refusal>,
+        superframe: &[u8],
+    ) -> Result<Totals, Refusal>
         ensures { result ≡ listed_with self radius counted superframe.now }
     {
         if radius == reading::ORDINARY {
@@ -109,8 +109,8 @@ impl Totals {
         self.step(superframe)
     }
 
-    // One superframe more. What is none, by its length, is refused with 1.
-    pub fn step(self, superframe: &[u8]) -> Step
+    // One superframe more. What is none, by its length, is refused.
+    pub fn step(self, superframe: &[u8]) -> Result<Totals, Refusal>
         ensures { result ≡ step_of self superframe.now }
     {
         self.add(tape::counts(superframe))

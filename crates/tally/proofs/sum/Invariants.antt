@@ -1,12 +1,9 @@
--- `tally::sum` meets its contract: after p turns the first p are added. Assumes nothing.
-use Prim.Native.Nat.{◌-◌, ◌*◌, ◌≤◌}
+-- `tally::sum` meets its contract: so many of the counts are added. Assumes nothing.
+use Prim.Native.Nat.{◌*◌, ◌≤◌}
 use mathlib.Core.Path.{◌≡◌}
 use lib.ListN.{take}
 use Rattle.tally.specs.Totals.{sum_of}
 use Rattle.tally.proofs.sum.Given as goal
 
-abbrev pub invariant-loop-p : goal.invariant-loop-p
-invariant-loop-p l = (l.p ≤ 8) × (l.sum ≤ 255 * l.p) × (l.sum ≡ sum_of (take l.p l.counts))
-
-abbrev pub decreases-loop-p : goal.decreases-loop-p
-decreases-loop-p l = 8 - l.p
+abbrev pub invariant-loop-n : goal.invariant-loop-n
+invariant-loop-n l = (l.n-index ≤ 8) × (l.sum ≤ 255 * l.n-index) × (l.sum ≡ sum_of (take l.n-index l.fn.counts))

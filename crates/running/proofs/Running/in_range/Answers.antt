@@ -7,6 +7,6 @@ pub returns-then-sums_fit : goal.returns-then-sums_fit
 unfolding running_in_range
 returns-then-sums_fit c = rw (sym c.sums_fit.ensures ∙ c.if-sums_fit.true, c.given.ensures)
 
-pub returns : goal.returns
+pub returns-else-sums_fit : goal.returns-else-sums_fit
 unfolding running_in_range
-returns c = rw (sym c.sums_fit.ensures ∙ c.if-sums_fit.false)
+returns-else-sums_fit c = rw (sym c.sums_fit.ensures ∙ c.if-sums_fit.false) c.if-sums_fit.false

@@ -1,20 +1,21 @@
 -- `running::Running::lose` meets its contract. Assumes nothing.
 use mathlib.Core.Path.{◌≡◌, sym, ◌∙◌}
 use native.Mathlib.Omega.{arith}
-use Rattle.running.specs.Running.{with_lost, step_number, lost_step}
+use Rattle.std.specs.declared.result.Result.TheVariants.{Err}
+use Rattle.running.specs.Running.{with_lost, lost_step}
 use Rattle.running.proofs.More.{free, room, goes_on, stays}
+use borrow.Author.Rules.{rules}
 use Rattle.running.proofs.Running.lose.Goals as goal
 
-pub returns-then-number-ne0 : goal.returns-then-number-ne0
+pub returns-in_err-allowed : goal.returns-in_err-allowed
 unfolding lost_step
-returns-then-number-ne0 c =
-    rw (stays c.args.self _ (λ e. c.if-number-ne0.true (c.number-number.ensures ∙ e)), ← c.number-number.ensures)
+returns-in_err-allowed c =
+    let told : c.from_residual.result ≡ Err c.in_err-allowed.field-0.0 = search rules in
+    rw (told, stays c.args.self (with_lost c.args.self) _ (sym c.allowed.ensures ∙ c.in_err-allowed.was))
 
-pub overflow_add-next : goal.overflow_add-next
-overflow_add-next c =
-    let none : step_number c.args.self ≡ 0 = sym c.number-number.ensures ∙ (c.if-number-ne0.false) in let few = room _ (free _ none).1 in omega (arith, few)
+pub overflow_add-result : goal.overflow_add-result
+overflow_add-result c = let few = room _ (free c.args.self _ (sym c.allowed.ensures ∙ c.in_ok-allowed.was)).1 in omega (arith, few)
 
 pub returns : goal.returns
 unfolding lost_step with_lost
-returns c =
-    let none : step_number c.args.self ≡ 0 = sym c.number-number.ensures ∙ (c.if-number-ne0.false) in rw (goes_on _ _ none)
+returns c = rw (goes_on c.args.self (with_lost c.args.self) _ (sym c.allowed.ensures ∙ c.in_ok-allowed.was))

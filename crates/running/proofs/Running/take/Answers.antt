@@ -1,40 +1,31 @@
 -- `running::Running::take` meets its contract. Assumes nothing.
 use mathlib.Core.Path.{◌≡◌, sym, ◌∙◌}
 use native.Mathlib.Omega.{arith}
-use Rattle.running.specs.Running.{Bounded, with_taken, step_number, taken_step}
+use Rattle.std.specs.declared.result.Result.TheVariants.{Err}
+use Rattle.running.specs.Running.{with_taken, taken_step}
 use Rattle.running.proofs.Sums.{bounded}
 use Rattle.running.proofs.More.{free, room, goes_on, stays}
+use borrow.Author.Rules.{rules}
 use Rattle.running.proofs.Running.take.Goals as goal
 
-pub returns-then-number-ne0 : goal.returns-then-number-ne0
+pub returns-in_err-allowed : goal.returns-in_err-allowed
 unfolding taken_step
-returns-then-number-ne0 c =
-    rw (stays c.args.self _ (λ e. c.if-number-ne0.true (c.number-number.ensures ∙ e)), ← c.number-number.ensures)
+returns-in_err-allowed c =
+    let told : c.from_residual.result ≡ Err c.in_err-allowed.field-0.0 = search rules in
+    rw (told, stays c.args.self (with_taken c.args.self c.args.blocks) _ (sym c.allowed.ensures ∙ c.in_err-allowed.was))
 
-pub overflow_add-next : goal.overflow_add-next
-overflow_add-next c =
-    let none : step_number c.args.self ≡ 0 = sym c.number-number.ensures ∙ c.if-number-ne0.false in let few = room _ (free _ none).1 in omega (arith, few)
+pub overflow_add-result : goal.overflow_add-result
+overflow_add-result c = let few = room _ (free c.args.self _ (sym c.allowed.ensures ∙ c.in_ok-allowed.was)).1 in omega (arith, few)
 
 pub added-requires : goal.added-requires
-added-requires c =
-    let none : step_number c.args.self ≡ 0 = sym c.number-number.ensures ∙ c.if-number-ne0.false in
-    let all-bounded : Bounded c.args.self.clean × Bounded c.args.self.mended × Bounded c.args.self.bad = bounded c.args.self (free _ none).0 in
-    all-bounded.0
+added-requires c = (bounded _ (free c.args.self _ (sym c.allowed.ensures ∙ c.in_ok-allowed.was)).0).0
 
 pub added-requires-2 : goal.added-requires-2
-added-requires-2 c =
-    let none : step_number c.args.self ≡ 0 = sym c.number-number.ensures ∙ c.if-number-ne0.false in
-    let all-bounded : Bounded c.args.self.clean × Bounded c.args.self.mended × Bounded c.args.self.bad = bounded c.args.self (free _ none).0 in
-    all-bounded.1
+added-requires-2 c = (bounded _ (free c.args.self _ (sym c.allowed.ensures ∙ c.in_ok-allowed.was)).0).1
 
 pub added-requires-3 : goal.added-requires-3
-added-requires-3 c =
-    let none : step_number c.args.self ≡ 0 = sym c.number-number.ensures ∙ c.if-number-ne0.false in
-    let all-bounded : Bounded c.args.self.clean × Bounded c.args.self.mended × Bounded c.args.self.bad = bounded c.args.self (free _ none).0 in
-    all-bounded.2
+added-requires-3 c = (bounded _ (free c.args.self _ (sym c.allowed.ensures ∙ c.in_ok-allowed.was)).0).2
 
 pub returns : goal.returns
 unfolding taken_step with_taken
-returns c =
-    let none : step_number c.args.self ≡ 0 = sym c.number-number.ensures ∙ c.if-number-ne0.false in
-    rw (goes_on _ _ none, c.added-3.ensures, c.added-2.ensures, c.added.ensures)
+returns c = rw (goes_on c.args.self (with_taken c.args.self c.args.blocks) _ (sym c.allowed.ensures ∙ c.in_ok-allowed.was), c.added-3.ensures, c.added-2.ensures, c.added.ensures)

@@ -1,36 +1,19 @@
 -- `tally::Totals::add` meets its contract. Assumes nothing.
-use Prim.Native.Nat.{ℕ}
-use mathlib.Core.Path.{◌≡◌, refl, sym, ap, ◌∙◌}
-use mathlib.Core.Bool.{cond}
-use borrow.Author.Tests.{eq-eqb, ne_eqb}
-use lib.Dec.{eqb}
-use Rattle.tally.specs.Totals.{grown, with_counted, added_to}
+use borrow.Author.Tests.{ne_eqb}
+use Rattle.bits.specs.Refused.{number_of}
+use Rattle.bits.proofs.Refused.{number-same}
+use Rattle.bits.specs.declared.refusal.Refusal.TheVariants.{Sync}
+use Rattle.tally.specs.Totals.{added_to}
 use Rattle.tally.proofs.Totals.add.Goals as goal
-use Rattle.tally.proofs.Totals.add.Goals.{then-number-eq3, else-number-eq3}
 
-one-lost : (n : ℕ) → n ≡ 3 → ◌≡◌ {A = ℕ} 1 (cond (eqb n 3) 1 0)
-one-lost n e = rw (eq-eqb n 3 e)
-
-none-lost : (n : ℕ) → (n ≡ 3 → ⊥) → ◌≡◌ {A = ℕ} 0 (cond (eqb n 3) 1 0)
-none-lost n e = rw (ne_eqb n 3 e)
-
-pub returns-then-not-is_counted : goal.returns-then-not-is_counted
+pub returns-in-Ok : goal.returns-in-Ok
 unfolding added_to
-returns-then-not-is_counted c = rw (sym c.is_counted.ensures ∙ c.if-not-is_counted.true) refl
+returns-in-Ok c = rw (c.in-Ok.is, c.with_read.ensures)
 
-pub returns : goal.returns
-unfolding added_to with_counted
-returns c =
-    let start = c.args in
-    let number = start.counted.number in
-    rw (
-      sym c.is_counted.ensures ∙ c.if-not-is_counted.false,
-      c.grow.ensures,
-      c.grow-2.ensures
-          ∙ ap (grown start.self.lost)
-          (elim c.if-number-eq3.branch [ then-number-eq3 w ↦ w.lost-is ∙ one-lost number w.if-number-eq3.true | else-number-eq3 w ↦ w.lost-is ∙ none-lost number w.if-number-eq3.false ]),
-      c.grow-3.ensures,
-      c.grow-4.ensures ∙ ap (grown start.self.clean) c.sum.ensures,
-      c.grow-5.ensures ∙ ap (grown start.self.mended) c.sum-2.ensures,
-      c.grow-6.ensures ∙ ap (grown start.self.bad) c.sum-3.ensures,
-    )
+pub returns-in-Sync : goal.returns-in-Sync
+unfolding added_to
+returns-in-Sync c = rw (c.in-Err.is, c.in-Sync.is, c.with_lost.ensures)
+
+pub returns-in_default : goal.returns-in_default
+unfolding added_to
+returns-in_default c = rw (c.in-Err.is, ne_eqb (number_of c.in-Err.why) 3 (λ e. c.in_default.not-Sync (number-same c.in-Err.why Sync e)))
