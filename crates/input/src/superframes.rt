@@ -1,5 +1,6 @@
 // The superframes of a reel behind its header, each handed on when it is there.
 ghost use Rattle.std.specs.Prelude.{◌≡◌, ◌≤◌, ◌<◌, IfOk, IsOk};
+ghost use Rattle.input.specs.HandedOn.{HandedOn};
 
 use ending::Fault;
 use reel::Header;
@@ -18,6 +19,7 @@ pub fn reach<R: Read>(from: &mut R, header: Header) -> Result<(), Fault>
 }
 
 // Hands on the superframes at some places, from 0, and answers the place of the first that was not: that is behind them, or before where the reel ends.
+// Each is handed on once, in order, and none behind a failure.
 pub fn read_places<R: Read, E: From<Fault>, F: FnMut(u32, &[u8; 5120]) -> Result<(), E>>(
     from: &mut R,
     progress: &mut Progress,
@@ -25,20 +27,22 @@ pub fn read_places<R: Read, E: From<Fault>, F: FnMut(u32, &[u8; 5120]) -> Result
     mut take: F,
 ) -> Result<u32, E>
     requires { (state : F) (k : _) (superframe : _) → k < places.end → F.pre state k superframe }
-    ensures { IfOk result (λ k. k ≤ places.end) }
+    ensures bound { IfOk result (λ k. places.start ≤ places.end → k ≤ places.end) }
+    ensures handed { IfOk result (λ k. (last : F) × HandedOn (λ f k g. (superframe : _) × F.step f k superframe (Ok tt) g) places.start take k last) }
 {
-    let end = places.end;
+    let mut next = places.start;
     for k in places {
         let mut superframe = [0u8; 5120];
         let came = streams::fill(from, &mut superframe).map_err(|cut| Fault::NotRead(cut.error))?;
         if came < 5120 {
-            return Ok(k);
+            break;
         }
         progress.done = k + 1;
         take(k, &superframe)?;
+        next = k + 1;
         progress.show();
     }
-    Ok(end)
+    Ok(next)
 }
 
 // All superframes of a reel, at most as many as its header promises, from 0: how many came.
@@ -49,7 +53,8 @@ pub fn read_all<R: Read, E: From<Fault>, F: FnMut(u32, &[u8; 5120]) -> Result<()
     take: F,
 ) -> Result<u32, E>
     requires { (state : F) (k : _) (superframe : _) → k < header.count → F.pre state k superframe }
-    ensures { IfOk result (λ k. k ≤ header.count) }
+    ensures bound { IfOk result (λ k. k ≤ header.count) }
+    ensures handed { IfOk result (λ k. (last : F) × HandedOn (λ f k g. (superframe : _) × F.step f k superframe (Ok tt) g) 0 take k last) }
 {
     reach(from, header)?;
     let mut progress = Progress::new(watched, header.count);
