@@ -41,7 +41,7 @@ fn bit_behind(bits: &[u8], at: usize, j: usize) -> u8
     }
 }
 
-// The byte that eight bits make, from a place of a list of bits on.
+// The byte that eight bits make, from a place of a list of bits on. The place is any, so a slice from there on would not do.
 pub fn byte_from(bits: &[u8], at: usize) -> u8
     ensures { result ≡ byte_at bits.now at }
 {

@@ -10,7 +10,8 @@ use bits::Refusal;
 use lookup::Lookup;
 use reading::Places;
 
-// What reading says of a block: clean, mended with 1, 2 or 3 places turned, or bad. Bad is a reading and no refusal: such a block is handed on as it was received.
+// What reading says of a block, in document 01's three words: clean, mended with 1, 2 or 3 places turned, or bad. Bad is a reading and no refusal: such a block
+// is handed on as it was received.
 #[derive(Clone, Copy, PartialEq, Eq, Debug)]
 pub enum BlockReading {
     Clean,

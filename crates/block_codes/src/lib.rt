@@ -28,7 +28,7 @@ fn place_of(channel: usize, k: usize) -> usize
     }
 }
 
-// The number that the 14 bits of a channel make.
+// The number that the 14 bits of a channel make. The channel is an index of the four that `all_codes` makes, here and below.
 fn pattern_at(bits: [u8; 77], channel: usize) -> u16
     requires { (channel < 4) × (are_bits bits ≡ true) }
     ensures { result ≡ value 2 (fourteen bits channel) }

@@ -18,7 +18,7 @@ const SCALE: Generator = Generator {
     degree: 8,
 };
 
-// The table by which a block's bits are divided (crate `eights`).
+// The table by which a block's bits are divided (crate `eights`). A function, as a constant has no contract.
 pub fn remainders() -> [u32; 256]
     ensures { result ≡ remainders_of block_generator }
 {

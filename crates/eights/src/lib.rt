@@ -7,6 +7,7 @@ ghost use Rattle.std.specs.Prelude.{◌≡◌, ◌<◌};
 ghost use Rattle.eights.specs.Eights.{step_by, word_by, row_by, check_by};
 
 // A step of the division for eight bits. The register holds the remainder so far, 19 binary digits: its upper eight choose what is taken off.
+// (There is no From of a u32 for a usize; and that what `as` narrows fits is proved, here and below.)
 fn next(table: &[u32; 256], reg: u32, byte: u8) -> u32
     ensures { result ≡ step_by 11 table.now reg byte }
 {

@@ -18,7 +18,7 @@ pub struct Lookup {
     pub pairs: Pairs,
 }
 
-// The first place from one to another at which a list holds a number.
+// The first place from one to another at which a list holds a number. The list is any, so a binary search would not do.
 fn first_in(list: &[u32], number: u32, from: usize, to: usize) -> Option<usize>
     ensures { result ≡ place_in (length list.now) (first_in list.now number from to) }
 {
@@ -54,7 +54,7 @@ impl Lookup {
         }
     }
 
-    // The two places of the pair that leaves a remainder.
+    // The two places of the pair that leaves a remainder. (`as usize`: there is no From of a u32 for a usize.)
     fn pair(&self, remainder: u32) -> Option<(usize, usize)>
         ensures { result ≡ apart (pair_in self.now (remainder % 2 ^ 19)) }
     {

@@ -17,7 +17,7 @@ const COLUMNS: [u32; 63] = [
     16384, 8192, 4096, 2048, 1024, 512, 256, 128, 64, 32, 16, 8, 4, 2, 1,
 ];
 
-// Places are counted from 0, the lowest first.
+// Places are counted from 0, the lowest first. The outcomes of one search, which are told apart by one match: an Option around four of them would take two.
 #[derive(Clone, Copy)]
 pub enum Places {
     // The word is a code word.
@@ -37,7 +37,7 @@ pub fn is_radius(radius: u8) -> bool
     radius == 2 || radius == 3
 }
 
-// What each place alone leaves.
+// What each place alone leaves. A function, as a constant has no contract.
 pub fn columns() -> [u32; 63]
     ensures { result ≡ column_numbers }
 {

@@ -24,6 +24,7 @@ impl Generator {
         (w ^ (w >> self.degree) * self.coefficients) % (1u32 << self.degree)
     }
 
+    // 0 above degree 31, as `remainder_number` says, and likewise below.
     pub fn remainder_of(self, bits: &[u8]) -> u32
         ensures { result ≡ remainder_number self.degree self.coefficients bits.now }
     {

@@ -10,7 +10,8 @@ ghost use Rattle.words.specs.Words.{word_of, turned_at, righted, lower_in, code_
 use lookup::Lookup;
 use reading::Places;
 
-// The tables by which blocks are read. A constant is stored anew wherever its name stands, so whoever reads many blocks makes a reader once and lends it.
+// The tables by which blocks are read. A constant is stored anew wherever its name stands, so whoever reads many blocks makes a reader once and lends it. The
+// tables may be any, as `told_by` says what any give, so no invariant says that they are the true ones.
 #[derive(Drop)]
 pub struct Reader {
     // what each byte leaves by the block's generator
@@ -18,7 +19,8 @@ pub struct Reader {
     pub lookup: Lookup,
 }
 
-// What is told of a block: its mark, 0 clean, 1 mended with one or two places turned, 4 with three, 2 bad, and the codes of its four channels.
+// What is told of a block: its mark, 0 clean, 1 mended with one or two places turned, 4 with three, 2 bad, and the codes of its four channels. The mark is a
+// number of document 01, which goes as a byte into lists of marks.
 #[derive(Clone, Copy)]
 pub struct Told {
     pub mark: u8,
@@ -55,13 +57,7 @@ fn turned(word: u64, place: usize) -> u64
     }
 }
 
-#[tactic(auto, unfolding(
-    crate::specs::Words::righted,
-    crate::specs::Words::mended_by,
-    crate::specs::Words::mark_by,
-    crate::specs::Words::turned_all,
-    reading::specs::Wrong::answer
-))]
+#[tactic(auto, unfolding(crate::specs::Words::righted, crate::specs::Words::mended_by, crate::specs::Words::mark_by, crate::specs::Words::turned_all, reading::specs::Wrong::answer))]
 fn mended(word: u64, places: Places) -> Righted
     ensures { result ≡ righted word (answer places) }
 {
@@ -83,7 +79,7 @@ fn mended(word: u64, places: Places) -> Righted
     }
 }
 
-// The three unprotected bits of a channel as a number.
+// The three unprotected bits of a channel as a number. The channel is an index of the four that `codes_in` makes, here and below.
 fn lower_in(bits: [u8; 77], channel: usize) -> u16
     requires { channel < 4 }
     ensures { (result ≡ lower_in bits channel) × (result < 8) }
