@@ -4,19 +4,26 @@
 --     quoted x              a byte between quotation marks: itself, or \x and two hexadecimal digits
 --     label_line k c s       the line of a label s
 --     same_to n old new c    whether the first n characters of channel c's label are the same in two sets of labels
---     channel_line k known old new c     the line of channel c where its label differs from the last one noted, or where none was noted
---     label_text k known old b new       these lines for all channels in order where labels are handed out, b; else none
+--     same_as old new c      whether channel c's label is the same as the last one noted; not where none was noted
+--     channel_line k old new c    the line of channel c where its label differs from the last one noted, or where none was noted
+--     label_text k old new   these lines for all channels in order where labels are handed out; else none
 --     no_labels              none noted
---     noted_after n o b new  what is noted afterwards, where number n is answered: the labels that were handed out
---     Labelling o k b new out to out' r     what noting labels answers and leaves
-use Rattle.std.specs.Prelude.{ℕ, zero, suc, ◌+◌, ◌*◌, ◌/◌, ◌%◌, ◌≡◌, Bool, true, false, cond, List, [], ◌∷◌, ◌++◌, eqb, ltb, get_or, replicate}
+--     noted_after o new      what is noted afterwards, where nothing is refused: the labels that were handed out
+--     Labelling o k labels old new r    what noting labels answers and leaves, with the pen as `old` before it and as `new` behind it; where it is refused,
+--                           what was noted stays with the caller
+use Rattle.std.specs.Prelude.{ℕ, zero, suc, ◌+◌, ◌*◌, ◌/◌, ◌%◌, ◌≡◌, Bool, true, false, cond, List, [], ◌∷◌, ◌++◌, eqb, ltb, get_or}
 use Rattle.bits.specs.Letters.{letters}
-use Rattle.text.specs.Page.{page}
+use Rattle.std.specs.Prelude.{IfOk}
+use Rattle.std.specs.declared.option.Option.{Option}
+use Rattle.std.specs.declared.option.Option.TheVariants.{Some, None}
+use Rattle.std.specs.declared.result.Result.{Result}
+use Rattle.bits.specs.declared.refusal.Refusal.{Refusal}
+use Rattle.text.specs.Pens.{on}
+use Rattle.text.specs.declared.pen.Pen.{Pen}
 use Rattle.text.specs.Entry.{entered, entered_text}
 use Rattle.text_rows.specs.Rows.{spelled, hex_byte}
 use Rattle.text_rows.specs.Turns.{next, in_turn, part}
 use Rattle.name_lines.specs.declared.Labels.{Labels}
-use Rattle.name_lines.specs.declared.Labelled.{Labelled}
 
 unfoldable pub head_text : ℕ → ℕ → List ℕ
 head_text k c = letters "superframe" ++ (next k ++ (letters " channel" ++ (next (c / 2 + 1) ++ cond (eqb (c % 2) 0) (letters "L") (letters "R"))))
@@ -34,18 +41,25 @@ unfoldable pub same_to : ℕ → List ℕ → List ℕ → ℕ → Bool
 same_to zero old new c = true
 same_to (suc n) old new c = cond (same_to n old new c) (eqb (get_or old (8 * c + n) 0) (get_or new (8 * c + n) 0)) false
 
-unfoldable pub channel_line : ℕ → Bool → List ℕ → List ℕ → ℕ → List ℕ
-channel_line k known old new c = cond (cond known (same_to 8 old new c) false) [] (label_line k c (part 8 c new))
+unfoldable pub same_as : Option (List ℕ) → List ℕ → ℕ → Bool
+same_as None new c = false
+same_as (Some old) new c = same_to 8 old new c
 
-unfoldable pub label_text : ℕ → Bool → List ℕ → Bool → List ℕ → List ℕ
-label_text k known old b new = cond b (in_turn 32 (channel_line k known old new)) []
+unfoldable pub channel_line : ℕ → Option (List ℕ) → List ℕ → ℕ → List ℕ
+channel_line k old new c = cond (same_as old new c) [] (label_line k c (part 8 c new))
+
+unfoldable pub label_text : ℕ → Option (List ℕ) → Option (List ℕ) → List ℕ
+label_text k old None = []
+label_text k old (Some new) = in_turn 32 (channel_line k old new)
 
 unfoldable pub no_labels : Labels
-no_labels = record { known = false; labels = replicate 256 0 }
+no_labels = record { noted = None }
 
-unfoldable pub noted_after : ℕ → Labels → Bool → List ℕ → Labels
-noted_after n o b new = cond (eqb n 0) (cond b (record { known = true; labels = new }) o) o
+unfoldable pub noted_after : Labels → Option (List ℕ) → Labels
+noted_after o None = o
+noted_after o (Some new) = record { noted = Some new }
 
-pub record Labelling (o : Labels) (k : ℕ) (b : Bool) (new : List ℕ) (out : List ℕ) (to : ℕ) (out' : List ℕ) (r : Labelled) : Type 0 where
-  pub text : entered r.placed out' ≡ entered_text (page out to) (label_text k o.known o.labels b new)
-  pub noted : r.noted ≡ noted_after r.placed.number o b new
+pub record Labelling (o : Labels) (k : ℕ) (labels : Option (List ℕ)) (old new : Pen) (r : Result Labels Refusal) : Type 0 where
+  pub same_buffer : new.out.ghost_name ≡ old.out.ghost_name
+  pub text : entered r (on new) ≡ entered_text (on old) (label_text k o.noted labels)
+  pub noted : IfOk r (λ (n : Labels). n ≡ noted_after o labels)

@@ -1,0 +1,17 @@
+-- `name_lines::put_head` meets its contract. Assumes nothing.
+use mathlib.Core.Path.{ap}
+use mathlib.Core.List.{◌∷◌}
+use Prim.Native.Nat.{ℕ, ◌+◌, ◌/◌}
+use Rattle.bits.specs.Letters.{letters}
+use Rattle.text.proofs.Pens.{puts_as, puts_then}
+use Rattle.text_rows.specs.Turns.{next}
+use Rattle.name_lines.specs.Names.{head_text}
+use Rattle.name_lines.proofs.put_head.Goals as goal
+
+pub returns : goal.returns
+unfolding head_text letters
+returns c =
+    puts_then c.put_all.ensures
+    (puts_then (puts_as (ap next c.from.ensures) c.put_next.ensures)
+    (puts_then c.put_all-2.ensures
+    (puts_then (puts_as (ap (λ (n : ℕ). next (n / 2 + 1)) c.from-2.ensures) c.put_next-2.ensures) c.put_side.ensures)))
