@@ -20,10 +20,7 @@ fn number_at(bytes: &[u8], at: usize) -> u32
     requires { at + 4 ≤ length bytes.now }
     ensures { result ≡ number_at bytes.now at }
 {
-    u32::from(bytes[at]) * 16_777_216
-        + u32::from(bytes[at + 1]) * 65_536
-        + u32::from(bytes[at + 2]) * 256
-        + u32::from(bytes[at + 3])
+    u32::from_be_bytes([bytes[at], bytes[at + 1], bytes[at + 2], bytes[at + 3]])
 }
 
 #[tactic(auto, unfolding(crate::specs::Header::good_header))]
@@ -43,15 +40,14 @@ pub fn read_header(bytes: &[u8]) -> Result<Header, Refusal>
     }
     let count = number_at(bytes, 0);
     let offset = number_at(bytes, 4);
-    let summary = number_at(bytes, 8);
-    let entries = number_at(bytes, 12);
-    if is_header(count, offset, summary, entries) {
-        return Ok(Header { count, offset });
+    if !is_header(count, offset, number_at(bytes, 8), number_at(bytes, 12)) {
+        return Err(Refusal::Header);
     }
-    Err(Refusal::Header)
+    Ok(Header { count, offset })
 }
 
 // How many superframes a run has; refused with number 1 where the bytes are no run.
+#[tactic(auto, unfolding(crate::specs::Run::run_of, crate::specs::Run::is_run))]
 pub fn run_count(bytes: &[u8]) -> Result<usize, Refusal>
     ensures { run_answer result ≡ run_of bytes.now }
 {
