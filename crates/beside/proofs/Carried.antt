@@ -3,7 +3,6 @@
 --     block-bit             a bit of the block in a position, where it stands in its main frame
 --     extra-there           an extra bit of a programme, the same
 --     service-there         a service bit, the same
---     left_there, right_there   the factors of a programme's two channels
 --     byte-there, six-there     a byte of the first 48 service bits; all six
 --     programmes-given, six-given     of a superframe's length nothing is refused
 -- Assumes nothing.
@@ -14,6 +13,7 @@ use native.Mathlib.Omega.{arith}
 use borrow.Author.Tests.{eq-eqb, lt-ltb}
 use lib.ListN.{length, get_or, take, drop}
 use lib.Seq.{get_or-take, get_or-drop, length-take-le}
+use Rattle.std.specs.declared.result.Result.TheVariants.{Ok}
 use Rattle.bits.specs.Table.{tabulate}
 use Rattle.bits.specs.Digits.{value}
 use Rattle.bits.specs.Bits.{bit_at, bits_of, eight_at, byte_at, bytes_of}
@@ -22,7 +22,7 @@ use Rattle.frame.specs.Frame.{service_in, place_of, deinterleave}
 use Rattle.frame.specs.Read.{service_read, block_of}
 use Rattle.bits.proofs.Bits.{bits_of-at}
 use Rattle.tape.specs.Tape.{frame_at, block_in}
-use Rattle.beside.specs.Beside.{extra_bit, extra_of, factor_or, factor_read, programmes_of, programmes_answer, service_bit, six_of, six_and_sync, six_answer}
+use Rattle.beside.specs.Beside.{extra_bit, programmes_of, programmes_answer, service_bit, six_of, six_and_sync, six_answer}
 use Rattle.tape.proofs.Tape.{block-there}
 
 pub frame-bit : (sf : List ℕ) (f k : ℕ) → k < 320 → bit_at sf (320 * f + k) ≡ bit_at (frame_at sf f) k
@@ -49,22 +49,6 @@ pub service-there : (sf : List ℕ) (f : ℕ) → bit_at sf (320 * f + 11) ≡ s
 unfolding service_bit service_read service_in
 service-there sf f = frame-bit sf f 11 (omega arith)
 
--- ---- factors
-module _ (sf : List ℕ) (q : ℕ) where
-  pub left_there : factor_or (extra_of sf q).number (extra_of sf q).left ≡ factor_read sf (2 * q)
-  unfolding factor_read
-  left_there =
-      let programme : 2 * q / 2 ≡ q = omega arith in
-      let side : 2 * q % 2 ≡ 0 = omega arith in
-      rw (programme, side)
-
-  pub right_there : factor_or (extra_of sf q).number (extra_of sf q).right ≡ factor_read sf (2 * q + 1)
-  unfolding factor_read
-  right_there =
-      let programme : (2 * q + 1) / 2 ≡ q = omega arith in
-      let side : (2 * q + 1) % 2 ≡ 1 = omega arith in
-      rw (programme, side)
-
 -- ---- service bytes
 pub byte-there : (bits : List ℕ) (i : ℕ) → i < 6 → byte_at bits (8 * i) ≡ byte_at (take 48 bits) (8 * i)
 unfolding byte_at eight_at
@@ -81,10 +65,10 @@ six-there bits e =
 
 -- ---- a superframe by its length
 module _ (sf : List ℕ) (e : length sf ≡ 5120) where
-  pub programmes-given : programmes_answer sf ≡ programmes_of sf
+  pub programmes-given : programmes_answer sf ≡ Ok (programmes_of sf)
   unfolding programmes_answer
   programmes-given = rw (eq-eqb (length sf) 5120 e)
 
-  pub six-given : six_answer sf ≡ six_and_sync sf
+  pub six-given : six_answer sf ≡ Ok (six_and_sync sf)
   unfolding six_answer
   six-given = rw (eq-eqb (length sf) 5120 e)

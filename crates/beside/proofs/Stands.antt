@@ -6,12 +6,15 @@
 --                           bits 49 to 64 are the sync"
 --     factor-there          and where there is no number they are those that the extra bits read as
 -- Assumes nothing.
-use mathlib.Core.Path.{◌≡◌, sym, ap, ap₂, ◌∙◌}
+use mathlib.Core.Path.{◌≡◌, refl, sym, ap, ap₂, ◌∙◌}
+use mathlib.Core.Bool.{cond}
 use mathlib.Core.Logic.{◌≢◌}
 use mathlib.Core.List.{List}
 use Prim.Native.Nat.{ℕ, ◌+◌, ◌-◌, ◌*◌, ◌/◌, ◌%◌, ◌≤◌}
 use native.Mathlib.Omega.{arith}
-use borrow.Author.Tests.{eq-eqb, ne_eqb}
+use Rattle.std.specs.declared.option.Option.{Option}
+use Rattle.std.specs.declared.option.Option.TheVariants.{Some, None}
+use lib.Dec.{eqb}
 use lib.ListN.{length, get_or, take}
 use lib.Seq.{get_or-drop}
 use Rattle.bits.specs.Bits.{bits_of, byte_at}
@@ -19,10 +22,11 @@ use Rattle.bits.proofs.Bits.{bits_of-at}
 use Rattle.bits.proofs.Table.{length-tab, get_or-tab}
 use Rattle.frame.specs.Frame.{service_in}
 use Rattle.frame.specs.Read.{service_read, block_of}
+use Rattle.nearest.specs.declared.Factors.{Factors}
 use Rattle.tape.specs.Tape.{frame_at}
 use Rattle.tape.specs.Document.{entry, channel_of, Carries, a_first, a_second, b-first, b-second}
 use Rattle.tape.proofs.Carried.{carried}
-use Rattle.beside.specs.Beside.{extra_bit, extra_bits, extra_of, factor_or, side_of, factor_read, number_at, programmes_of, service_bit, service_bits, sync_of, six_and_sync}
+use Rattle.beside.specs.Beside.{extra_bit, extra_bits, extra_of, number_of_factors, factor_or, factor_read, number_at, programmes_of, service_bit, service_bits, sync_of, six_and_sync}
 use Rattle.beside.specs.Document.{missing, extra_number}
 use Rattle.beside.proofs.Carried.{byte-there, six-there}
 
@@ -51,22 +55,28 @@ module _ (sf : List ℕ) (q side : ℕ) (k : 1 ≤ q) (l : q ≤ 16) (m : 1 ≤ 
   unfolding programmes_of
   factor-is = get_or-tab 32 (factor_read sf) channel 0 (omega arith)
 
-  pub number_is : entry (programmes_of sf).numbers q 0 ≡ (extra_of sf (q - 1)).number
+  pub number_is : entry (programmes_of sf).numbers q 0 ≡ number_at sf (q - 1)
   unfolding programmes_of
   number_is = get_or-tab 16 (number_at sf) (q - 1) 0 (omega arith)
 
   programme : channel / 2 ≡ q - 1
   programme = omega arith
 
-  pub five-missing : entry (programmes_of sf).numbers q 0 ≢ 0 → entry (programmes_of sf).factors (channel_of q side) 0 ≡ missing
-  unfolding factor_read factor_or
-  five-missing h = factor-is ∙ rw (programme, ne_eqb (extra_of sf (q - 1)).number 0 (λ e. h (number_is ∙ e)))
+  factor-read : entry (programmes_of sf).factors (channel_of q side) 0 ≡ factor_or (extra_of sf (q - 1)).factors (side - 1)
+  unfolding factor_read
+  factor-read = let which : channel % 2 ≡ side - 1 = omega arith in factor-is ∙ rw (programme, which)
 
-  pub factor-there : entry (programmes_of sf).numbers q 0 ≡ 0 → entry (programmes_of sf).factors (channel_of q side) 0 ≡ side_of (extra_of sf (q - 1)) (side - 1)
-  unfolding factor_read factor_or
-  factor-there h =
-      let which : channel % 2 ≡ side - 1 = omega arith in
-      factor-is ∙ rw (programme, which, eq-eqb (extra_of sf (q - 1)).number 0 (sym number_is ∙ h))
+  none-missing : (o : Option Factors) (j : ℕ) → number_of_factors o ≢ 0 → factor_or o j ≡ missing
+  unfolding factor_or
+  none-missing None j h = refl
+  none-missing (Some f) j h = absurd (h refl)
+
+  pub five-missing : entry (programmes_of sf).numbers q 0 ≢ 0 → entry (programmes_of sf).factors (channel_of q side) 0 ≡ missing
+  five-missing h = factor-read ∙ none-missing (extra_of sf (q - 1)).factors (side - 1) (λ e. h (number_is ∙ e))
+
+  pub factor-there : (f : Factors) → (extra_of sf (q - 1)).factors ≡ Some f → entry (programmes_of sf).factors (channel_of q side) 0 ≡ cond (eqb (side - 1) 0) f.left f.right
+  unfolding factor_or
+  factor-there f e = factor-read ∙ rw e
 
 -- ---- service bits
 module _ (sf : List ℕ) where

@@ -2,14 +2,16 @@
 use mathlib.Core.Path.{◌≡◌}
 use mathlib.Core.List.{List}
 use Prim.Native.Nat.{ℕ}
+use Rattle.std.specs.declared.result.Result.{Result}
+use Rattle.bits.specs.declared.refusal.Refusal.{Refusal}
 use Rattle.bits.proofs.Unique.{same}
 use Rattle.beside.specs.Beside.{programmes_answer, six_answer}
 use Rattle.beside.specs.declared.Programmes.{Programmes}
 use Rattle.beside.specs.declared.SixAndSync.{SixAndSync}
 
 module _ (sf : List ℕ) where
-  pub programmes-of-unique : (r r' : Programmes) → r ≡ programmes_answer sf → r' ≡ programmes_answer sf → r ≡ r'
+  pub programmes-of-unique : (r r' : Result Programmes Refusal) → r ≡ programmes_answer sf → r' ≡ programmes_answer sf → r ≡ r'
   programmes-of-unique r r' = same
 
-  pub six-and-sync-unique : (r r' : SixAndSync) → r ≡ six_answer sf → r' ≡ six_answer sf → r ≡ r'
+  pub six-and-sync-unique : (r r' : Result SixAndSync Refusal) → r ≡ six_answer sf → r' ≡ six_answer sf → r ≡ r'
   six-and-sync-unique r r' = same

@@ -2,14 +2,15 @@
 #![tactic(auto)]
 
 ghost use Rattle.std.specs.Prelude.{◌≡◌, ◌<◌};
-ghost use Rattle.beside.specs.Beside.{extra_bit, extra_bits, extra_of, factor_or, programmes_of, programmes_answer, service_bits, six_of, sync_of, six_answer};
+ghost use Rattle.beside.specs.Beside.{extra_bit, extra_bits, extra_of, number_of_factors, places_of_factors, factor_or, programmes_of, programmes_answer, service_bit, service_bits, six_of, sync_of, six_answer};
 
-use nearest::Extra;
+use bits::Refusal;
+use nearest::{Extra, Factors};
 
-// The extra bits of the 16 programmes as they read.
+// The extra bits of the 16 programmes as they read, in a list for each part: the state takes the factors whole, and the texts put each part as a row.
 #[derive(Clone, Copy)]
 pub struct Programmes {
-    // 0; 5: two or more scale words are equally near; 1: the bytes are no superframe
+    // 0; 5: two or more scale words are equally near
     pub numbers: [u8; 16],
     // of the 32 channels, for the superframe after the next; 8: missing
     pub factors: [u8; 32],
@@ -19,10 +20,9 @@ pub struct Programmes {
     pub words: [u32; 16],
 }
 
-// The 64 service bits of a superframe, and number 0; or number 1 and zeros.
+// The 64 service bits of a superframe.
 #[derive(Clone, Copy)]
 pub struct SixAndSync {
-    pub number: u8,
     // 1 to 48
     pub six: [u8; 6],
     // 49 to 64
@@ -47,123 +47,112 @@ fn extra_bits(sf: &[u8], q: usize) -> [u8; 64]
     requires { q < 16 }
     ensures { result ≡ extra_bits sf.now q }
 {
-    let mut out = [0u8; 64];
-    let mut f: usize = 0;
-    while f < 64 {
-        out[f] = extra_at(sf, q, f);
-        f += 1;
-    }
-    out
+    std::array::from_fn(
+        |f|
+            requires { (q < 16) × (f < 64) }
+            ensures { result ≡ extra_bit sf.entry.now q f }
+        { extra_at(sf, q, f) },
+    )
 }
 
+// Each extra bit is a bit, so that nothing is refused.
 fn extra_of(sf: &[u8], q: usize) -> Extra
     requires { q < 16 }
     ensures { result ≡ extra_of sf.now q }
 {
-    nearest::read_extra(extra_bits(sf, q))
+    nearest::read_extra(extra_bits(sf, q)).unwrap()
 }
 
-// 8, missing, where a number came.
-fn factor_or(number: u8, factor: u8) -> u8
-    ensures { result ≡ factor_or number factor }
+// 5 where the factors could not be read.
+fn number_of(factors: Option<Factors>) -> u8
+    ensures { result ≡ number_of_factors factors }
 {
-    if number == 0 { factor } else { 8 }
+    match factors {
+        Some(_) => 0,
+        None => 5,
+    }
+}
+
+fn places_of(factors: Option<Factors>) -> u8
+    ensures { result ≡ places_of_factors factors }
+{
+    match factors {
+        Some(read) => read.places,
+        None => 0,
+    }
+}
+
+// Side 0 is the left one. 8, missing, where the factors could not be read.
+#[tactic(auto, unfolding(crate::specs::Beside::factor_or))]
+fn factor_or(factors: Option<Factors>, side: usize) -> u8
+    ensures { result ≡ factor_or factors side }
+{
+    match factors {
+        Some(read) => if side == 0 { read.left } else { read.right },
+        None => 8,
+    }
 }
 
 fn all_programmes(sf: &[u8]) -> Programmes
     ensures { result ≡ programmes_of sf.now }
 {
-    let mut numbers = [0u8; 16];
-    let mut factors = [0u8; 32];
-    let mut places = [0u8; 16];
-    let mut words = [0u32; 16];
-    let mut q: usize = 0;
-    while q < 16 {
-        let extra = extra_of(sf, q);
-        let number = extra.number;
-        numbers[q] = number;
-        let left = factor_or(number, extra.left);
-        factors[2 * q] = left;
-        let right = factor_or(number, extra.right);
-        factors[2 * q + 1] = right;
-        places[q] = extra.places;
-        words[q] = extra.word;
-        q += 1;
-    }
+    let extras: [Extra; 16] = std::array::from_fn(|q| extra_of(sf, q));
     Programmes {
-        numbers,
-        factors,
-        places,
-        words,
+        numbers: std::array::from_fn(|q| number_of(extras[q].factors)),
+        factors: std::array::from_fn(|c| factor_or(extras[c / 2].factors, c % 2)),
+        places: std::array::from_fn(|q| places_of(extras[q].factors)),
+        words: std::array::from_fn(|q| extras[q].word),
     }
 }
 
-// Of what is no superframe no programme has a factor.
-pub fn programmes_of(sf: &[u8]) -> Programmes
+// What is no superframe is refused.
+#[tactic(auto, unfolding(crate::specs::Beside::programmes_answer))]
+pub fn programmes_of(sf: &[u8]) -> Result<Programmes, Refusal>
     ensures { result ≡ programmes_answer sf.now }
 {
-    if sf.len() != 5120 {
-        return Programmes {
-            numbers: [1u8; 16],
-            factors: [8u8; 32],
-            places: [0u8; 16],
-            words: [0u32; 16],
-        };
+    if sf.len() == 5120 {
+        Ok(all_programmes(sf))
+    } else {
+        Err(Refusal::Length)
     }
-    all_programmes(sf)
 }
 
-// Bit 12 of each main frame of A.
+// Bit 12 of a main frame of A.
+fn service_at(sf: &[u8], f: usize) -> u8
+    requires { f < 64 }
+    ensures { result ≡ service_bit sf.now f }
+{
+    bits::bit_of(sf, 320 * f + 11)
+}
+
 fn service_bits(sf: &[u8]) -> [u8; 64]
     ensures { result ≡ service_bits sf.now }
 {
-    let mut out = [0u8; 64];
-    let mut f: usize = 0;
-    while f < 64 {
-        out[f] = bits::bit_of(sf, 320 * f + 11);
-        f += 1;
-    }
-    out
+    std::array::from_fn(|f| service_at(sf, f))
 }
 
 fn six_of(bits: [u8; 64]) -> [u8; 6]
     ensures { result ≡ six_of bits }
 {
-    let mut out = [0u8; 6];
-    let mut i: usize = 0;
-    while i < 6 {
-        out[i] = bits::byte_from(&bits, 8 * i);
-        i += 1;
-    }
-    out
+    std::array::from_fn(|i| bits::byte_from(&bits, 8 * i))
 }
 
 fn sync_of(bits: [u8; 64]) -> [u8; 16]
     ensures { result ≡ sync_of bits }
 {
-    let mut out = [0u8; 16];
-    let mut j: usize = 0;
-    while j < 16 {
-        out[j] = bits[48 + j];
-        j += 1;
-    }
-    out
+    std::array::from_fn(|j| bits[48 + j])
 }
 
-pub fn six_and_sync(sf: &[u8]) -> SixAndSync
+// What is no superframe is refused.
+pub fn six_and_sync(sf: &[u8]) -> Result<SixAndSync, Refusal>
     ensures { result ≡ six_answer sf.now }
 {
     if sf.len() != 5120 {
-        return SixAndSync {
-            number: 1,
-            six: [0u8; 6],
-            sync: [0u8; 16],
-        };
+        return Err(Refusal::Length);
     }
     let bits = service_bits(sf);
-    SixAndSync {
-        number: 0,
+    Ok(SixAndSync {
         six: six_of(bits),
         sync: sync_of(bits),
-    }
+    })
 }

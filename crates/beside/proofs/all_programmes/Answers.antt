@@ -1,51 +1,35 @@
 -- `beside::all_programmes` meets its contract. Assumes nothing.
-use mathlib.Core.Path.{◌≡◌, refl, ap, ◌∙◌}
-use Prim.Native.Nat.{◌+◌, ◌*◌}
+use mathlib.Core.Path.{◌≡◌, ap, ◌∙◌}
+use mathlib.Core.List.{List}
+use Prim.Native.Nat.{ℕ, ◌/◌, ◌%◌, ◌<◌}
 use native.Mathlib.Omega.{arith}
-use lib.ListN.{set, length-set}
+use lib.ListN.{get_or}
+use Rattle.std.specs.declared.option.Option.TheVariants.{None}
 use Rattle.bits.specs.Table.{tabulate}
-use Rattle.bits.proofs.Table.{tab-more, tab-done}
+use Rattle.bits.proofs.Made.{made}
+use Rattle.bits.proofs.Table.{get_or-tab, tab-ext}
 use Rattle.nearest.specs.declared.Extra.{Extra}
-use Rattle.beside.specs.Beside.{factor_or, factor_read, number_at, places_at, word_at, programmes_of}
-use Rattle.beside.proofs.Carried.{left_there, right_there}
+use Rattle.beside.specs.Beside.{extra_of, number_of_factors, places_of_factors, factor_or, factor_read, number_at, places_at, word_at, programmes_of}
 use borrow.Author.Rules.{rules}
 use Rattle.beside.proofs.all_programmes.Goals as goal
 
-pub loop-q-init : goal.loop-q-init
-unfolding tabulate
-loop-q-init c = (search rules, search rules, refl, search rules, refl, search rules, refl, search rules, refl)
-
-pub loop-q-preserved : goal.loop-q-preserved
-loop-q-preserved c =
-    let l = c.loop-q in
-    let sf = c.args.sf.now in
-    let x = c.extra_of-extra.ensures in
-    let left : c.factor_or-left.result ≡ factor_read sf (2 * l.q) =
-    c.factor_or-left.ensures ∙ ap (λ (x : Extra). factor_or x.number x.left) x ∙ left_there sf l.q in
-    let right : c.factor_or-right.result ≡ factor_read sf (2 * l.q + 1) =
-    c.factor_or-right.ensures ∙ ap (λ (x : Extra). factor_or x.number x.right) x ∙ right_there sf l.q in
-    let one = tab-more (factor_read sf) l.factors (2 * l.q) c.factor_or-left.result (omega arith) l.invariant.4 left in
-    let size = length-set l.factors (2 * l.q) c.factor_or-left.result in
-    let two = tab-more (factor_read sf) (set l.factors (2 * l.q) c.factor_or-left.result) (2 * l.q + 1) c.factor_or-right.result (omega arith) one right in
-    let next : 2 * (l.q + 1) ≡ 2 * l.q + 1 + 1 = omega arith in (
-      search rules,
-      search rules,
-      tab-more (number_at sf) l.numbers l.q _ (omega arith) l.invariant.2 (ap (λ (x : Extra). x.number) x),
-      search rules,
-      rw next two,
-      search rules,
-      tab-more (places_at sf) l.places l.q _ (omega arith) l.invariant.6 (ap (λ (x : Extra). x.places) x),
-      search rules,
-      tab-more (word_at sf) l.words l.q _ (omega arith) l.invariant.8 (ap (λ (x : Extra). x.word) x),
-    )
+none : Extra
+none = record { factors = None; word = 0 }
 
 pub returns : goal.returns
-unfolding programmes_of
+unfolding programmes_of factor_read none
 returns c =
-    let l = c.loop-q in
     let sf = c.args.sf.now in
-    let numbers = tab-done (number_at sf) l.numbers 16 l.q (omega arith) (omega arith) (omega arith) l.invariant.2 in
-    let factors = tab-done (factor_read sf) l.factors 32 (2 * l.q) (omega arith) (omega arith) (omega arith) l.invariant.4 in
-    let places = tab-done (places_at sf) l.places 16 l.q (omega arith) (omega arith) (omega arith) l.invariant.6 in
-    let words = tab-done (word_at sf) l.words 16 l.q (omega arith) (omega arith) (omega arith) l.invariant.8 in
-    rw (numbers, factors, places, words)
+    let extras : List Extra = c.from_fn-extras.result in
+    let all : extras ≡ tabulate 16 (extra_of sf) = made _ (extra_of sf) _ 16 _ none c.from_fn-extras.ensures.items (λ q y p h k. search rules) in
+    let at : (q : ℕ) → q < 16 → get_or extras q none ≡ extra_of sf q = λ q h. ap (λ (l : List Extra). get_or l q none) all ∙ get_or-tab 16 (extra_of sf) q none h in
+    rw (
+      made _ (λ q. number_of_factors (get_or extras q none).factors) _ 16 _ 0 c.from_fn.ensures.items (λ q y p h k. search rules)
+          ∙ tab-ext 16 (λ q. number_of_factors (get_or extras q none).factors) (number_at sf) (λ q h. ap (λ (x : Extra). number_of_factors x.factors) (at q h)),
+      made _ (λ i. factor_or (get_or extras (i / 2) none).factors (i % 2)) _ 32 _ 0 c.from_fn-2.ensures.items (λ i y p h k. search rules)
+          ∙ tab-ext 32 (λ i. factor_or (get_or extras (i / 2) none).factors (i % 2)) (factor_read sf) (λ i h. ap (λ (x : Extra). factor_or x.factors (i % 2)) (at (i / 2) (omega arith))),
+      made _ (λ q. places_of_factors (get_or extras q none).factors) _ 16 _ 0 c.from_fn-3.ensures.items (λ q y p h k. search rules)
+          ∙ tab-ext 16 (λ q. places_of_factors (get_or extras q none).factors) (places_at sf) (λ q h. ap (λ (x : Extra). places_of_factors x.factors) (at q h)),
+      made _ (λ q. (get_or extras q none).word) _ 16 _ 0 c.from_fn-4.ensures.items (λ q y p h k. search rules)
+          ∙ tab-ext 16 (λ q. (get_or extras q none).word) (word_at sf) (λ q h. ap (λ (x : Extra). x.word) (at q h)),
+    )

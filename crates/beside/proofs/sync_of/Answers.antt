@@ -1,29 +1,20 @@
 -- `beside::sync_of` meets its contract. Assumes nothing.
-use mathlib.Core.Path.{◌≡◌, refl, sym}
+use mathlib.Core.Path.{◌≡◌, sym, ◌∙◌}
+use Prim.Native.Nat.{◌+◌}
 use native.Mathlib.Omega.{arith}
-use lib.ListN.{length, drop, length-drop}
+use lib.ListN.{length, get_or, drop, length-drop}
 use lib.Seq.{get_or-drop}
-use Rattle.bits.proofs.Table.{toward, arrived}
+use Rattle.bits.proofs.Made.{made}
+use Rattle.bits.proofs.Table.{tab-ext, tab-get_or}
 use Rattle.beside.specs.Beside.{sync_of}
 use borrow.Author.Rules.{rules}
 use Rattle.beside.proofs.sync_of.Goals as goal
 
-pub loop-j-init : goal.loop-j-init
-loop-j-init c = (search rules, search rules, refl)
-
-pub loop-j-preserved : goal.loop-j-preserved
-loop-j-preserved c =
-    let l = c.loop-j in
-    let bits = c.args.bits in
-    let size : length bits ≡ 64 = search rules in
-    let rest = length-drop 48 bits in
-    (search rules, search rules, toward (drop 48 bits) l.out l.j _ 0 (omega arith) (omega arith) l.invariant.2 (sym (get_or-drop 48 bits l.j 0)))
-
 pub returns : goal.returns
 unfolding sync_of
 returns c =
-    let l = c.loop-j in
     let bits = c.args.bits in
     let size : length bits ≡ 64 = search rules in
-    let rest = length-drop 48 bits in
-    arrived (drop 48 bits) l.out l.j (omega arith) (omega arith) l.invariant.2
+    made _ (λ j. get_or bits (48 + j) 0) _ 16 _ 0 c.from_fn.ensures.items (λ j y q h k. search rules)
+    ∙ tab-ext 16 (λ j. get_or bits (48 + j) 0) (λ j. get_or (drop 48 bits) j 0) (λ j h. sym (get_or-drop 48 bits j 0))
+    ∙ sym (tab-get_or 16 (drop 48 bits) 0 (length-drop 48 bits ∙ omega arith))
