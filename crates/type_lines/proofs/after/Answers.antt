@@ -10,8 +10,13 @@ pub returns-then-position-ne8 : goal.returns-then-position-ne8
 unfolding types_after
 returns-then-position-ne8 c = rw (ne_eqb _ _ c.if-position-ne8.true) refl
 
-pub returns : goal.returns
+pub returns-then-told : goal.returns-then-told
 unfolding types_after
-returns c =
+returns-then-told c =
     let start = c.args in
-    rw (eq-eqb _ _ c.if-position-ne8.false) (ap (λ (b : List ℕ). record { bytes = b; group = start.group; superframe = start.k }) c.bytes_after-bytes.ensures)
+    rw (eq-eqb _ _ c.if-position-ne8.false, c.if-told.true)
+    (ap (λ (b : List ℕ). record { bytes = b; group = start.group; superframe = start.k }) c.noted_bytes-bytes.ensures)
+
+pub returns-else-told : goal.returns-else-told
+unfolding types_after
+returns-else-told c = rw (eq-eqb _ _ c.if-position-ne8.false, c.if-told.false) refl

@@ -31,18 +31,18 @@ nothing s = refl
 pub loop-n-init : goal.loop-n-init
 loop-n-init c = (search rules, refl)
 
-pub returns-then-letters-n-ne32 : goal.returns-then-letters-n-ne32
-returns-then-letters-n-ne32 c =
-    let l = c.loop-n in
-    (sym (l.invariant.1 ∙ stop l.n _ (omega arith) c.if-letters-n-ne32.true), l.invariant.0)
-
 pub loop-n-preserved : goal.loop-n-preserved
 loop-n-preserved c =
     let l = c.loop-n in
-    (search rules, l.invariant.1 ∙ on l.n _ (omega arith) c.if-letters-n-ne32.false)
+    (search rules, l.invariant.1 ∙ on l.n _ (omega arith) c.if-letters-n-eq32.true)
 
-pub returns : goal.returns
-returns c =
+pub returns-else-letters-n-eq32 : goal.returns-else-letters-n-eq32
+returns-else-letters-n-eq32 c =
+    let l = c.loop-n in
+    (sym (l.invariant.1 ∙ stop l.n _ (omega arith) c.if-letters-n-eq32.false), l.invariant.0)
+
+pub returns-after-loop-n : goal.returns-after-loop-n
+returns-after-loop-n c =
     let l = c.loop-n in
     let start = c.args in
     let none : l.n ≡ 0 = omega arith in

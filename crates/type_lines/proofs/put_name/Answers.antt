@@ -1,14 +1,20 @@
 -- `type_lines::put_name` meets its contract. Assumes nothing.
 use mathlib.Core.Path.{ap, ◌∙◌}
+use mathlib.Core.List.{List}
+use Prim.Native.Nat.{ℕ}
 use lib.ListN.{take}
-use Rattle.programme.specs.declared.Name.{Name}
-use Rattle.text.specs.Page.{page, put_text}
+use Rattle.std.specs.Prelude.{replicate}
+use Rattle.std.specs.Result.{result_unwrap_or}
+use Rattle.std.specs.declared.result.Result.{Result}
+use Rattle.bits.specs.declared.refusal.Refusal.{Refusal}
+use Rattle.text.proofs.Pens.{puts_as}
 use Rattle.type_lines.specs.Types.{held_to, bare}
 use Rattle.type_lines.proofs.put_name.Goals as goal
 
 pub returns : goal.returns
 unfolding bare
 returns c =
-    let start = c.args in
+    puts_as
+    (ap (λ (l : List ℕ). take (held_to 8 l) l)
+    (c.unwrap_or-name.ensures ∙ ap (λ (r : Result (List ℕ) Refusal). result_unwrap_or r (replicate 8 0)) c.name_of.ensures))
     c.put_held.ensures
-    ∙ ap (λ (n : Name). put_text (page start.out.now start.to) (take (held_to 8 n.letters) n.letters)) c.name_of-name.ensures
