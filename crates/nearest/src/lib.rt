@@ -28,12 +28,11 @@ pub struct Extra {
     pub word: u32,
 }
 
-// Of the pairs that were looked at one that differs in the fewest places, their number, and whether it is the only one.
+// Of the pairs that were looked at the fewest places in which one differs, and that one, where it is the only one.
 #[derive(Clone, Copy)]
 struct Best {
-    pair: u8,
     places: u8,
-    alone: bool,
+    only: Option<u8>,
 }
 
 fn sent() -> [u64; 64]
@@ -62,21 +61,18 @@ fn far(words: &[u64; 64], number: u64, pair: u8) -> u8
 }
 
 // One pair more.
+#[tactic(auto, unfolding(crate::specs::Search::better_of))]
 fn better(best: Best, pair: u8, places: u8) -> Best
     ensures { result ≡ better_of best pair places }
 {
     if places < best.places {
         return Best {
-            pair,
             places,
-            alone: true,
+            only: Some(pair),
         };
     }
     if places == best.places {
-        return Best {
-            alone: false,
-            ..best
-        };
+        return Best { only: None, ..best };
     }
     best
 }
@@ -86,9 +82,8 @@ fn best_of(words: &[u64; 64], number: u64) -> Best
     ensures { Holds (digits 2 42 number) 64 result }
 {
     let mut best = Best {
-        pair: 0,
         places: far(words, number, 0),
-        alone: true,
+        only: Some(0),
     };
     for k in 1..64u8 {
         best = better(best, k, far(words, number, k));
@@ -107,9 +102,8 @@ fn nearest_in(bits: &[u8]) -> Best
     let places = far(&words, number, came);
     if places <= 7 {
         return Best {
-            pair: came,
             places,
-            alone: true,
+            only: Some(came),
         };
     }
     best_of(&words, number)
@@ -119,14 +113,11 @@ fn nearest_in(bits: &[u8]) -> Best
 fn factors_of(best: Best) -> Option<Factors>
     ensures { nearest_told result ≡ best_told best }
 {
-    if best.alone {
-        return Some(Factors {
-            left: best.pair / 8,
-            right: best.pair % 8,
-            places: best.places,
-        });
-    }
-    None
+    best.only.map(|pair| Factors {
+        left: pair / 8,
+        right: pair % 8,
+        places: best.places,
+    })
 }
 
 // Refused with number 2 where an entry is not 0 or 1, then with number 5 where two or more scale words are equally near and none is nearer.

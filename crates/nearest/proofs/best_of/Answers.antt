@@ -1,5 +1,5 @@
 -- `nearest::best_of` meets its contract. The loop's invariant: the best of the pairs passed. Assumes nothing.
-use mathlib.Core.Path.{◌≡◌, refl, sym, ap, ◌∙◌, subst}
+use mathlib.Core.Path.{◌≡◌, sym, ap, ◌∙◌, subst}
 use mathlib.Core.List.{List}
 use Prim.Native.Nat.{ℕ, suc}
 use native.Mathlib.Numerals.{add-one}
@@ -13,7 +13,7 @@ use borrow.Author.Rules.{rules}
 use Rattle.nearest.proofs.best_of.Goals as goal
 
 pub loop-k-init : goal.loop-k-init
-loop-k-init c = (search rules, start (digits 2 42 c.args.number) _ refl c.far.ensures refl)
+loop-k-init c = (search rules, start (digits 2 42 c.args.number) c.far.result c.far.ensures)
 
 pub loop-k-preserved : goal.loop-k-preserved
 loop-k-preserved c =

@@ -1,5 +1,6 @@
 -- `nearest::number_from` meets its contract: the sum is the number that the bits so far make. Assumes nothing.
 use mathlib.Core.Path.{◌≡◌, refl, sym, ap, ap₂, ◌∙◌}
+use mathlib.Core.List.{List}
 use Prim.Native.Nat.{ℕ, ◌+◌, ◌*◌, ◌%◌, ◌^◌, ◌<◌, ◌≤◌}
 use native.Mathlib.Nat.{lt_of_lt_of_le}
 use native.Mathlib.Omega.{arith}
@@ -12,23 +13,21 @@ use Rattle.nearest.proofs.Numbers.{number_small, number_more}
 use borrow.Author.Rules.{rules}
 use Rattle.nearest.proofs.number_from.Goals as goal
 
+-- a sum of at most 42 bits has room
+room : (bits : List ℕ) (at n sum : ℕ) → n ≤ 42 → sum ≡ value 2 (bits_from bits at n) → sum < 2 ^ 42
+room bits at n sum h e = rw e (lt_of_lt_of_le (number_small bits at n) (pow_mono h))
+
 pub loop-j-init : goal.loop-j-init
 unfolding value tabulate bits_from
 loop-j-init c = (search rules, refl)
 
 pub overflow_mul-sum : goal.overflow_mul-sum
 overflow_mul-sum c =
-    let room : c.loop-j.sum < 2 ^ 42 = let given = c.args in
-    let most = c.requires.1 in
-    let few : c.loop-j.j ≤ 42 = omega (arith, c.loop-j.invariant.0) in
-    rw c.loop-j.invariant.1 (lt_of_lt_of_le (number_small given.bits.now given.at c.loop-j.j) (pow_mono few)) in let h = room in search rules
+    let h = room c.args.bits.now c.args.at c.loop-j.j c.loop-j.sum (omega (arith, c.loop-j.invariant.0, c.requires.1)) c.loop-j.invariant.1 in search rules
 
 pub overflow_add-sum : goal.overflow_add-sum
 overflow_add-sum c =
-    let room : c.loop-j.sum < 2 ^ 42 = let given = c.args in
-    let most = c.requires.1 in
-    let few : c.loop-j.j ≤ 42 = omega (arith, c.loop-j.invariant.0) in
-    rw c.loop-j.invariant.1 (lt_of_lt_of_le (number_small given.bits.now given.at c.loop-j.j) (pow_mono few)) in let h = room in search rules
+    let h = room c.args.bits.now c.args.at c.loop-j.j c.loop-j.sum (omega (arith, c.loop-j.invariant.0, c.requires.1)) c.loop-j.invariant.1 in search rules
 
 pub loop-j-preserved : goal.loop-j-preserved
 loop-j-preserved c =
