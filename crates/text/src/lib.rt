@@ -3,9 +3,7 @@
 #![tactic(auto)]
 
 mod pen;
-mod places;
 mod words;
 
 pub use pen::{Pen, within};
-pub use places::{put, put_all, put_next, put_next_signed, put_number, put_signed};
 pub use words::Text;
