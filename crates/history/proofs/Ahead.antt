@@ -19,12 +19,11 @@ use Rattle.bits.proofs.Table.{tab-ext}
 use Rattle.superframe.specs.State.{missing, lost_state, lost_with, after_loss}
 use Rattle.sound.specs.Sound.{sound_at, mark_with, sample_at, mark_at, in_rows, samples_of, marks_of}
 use Rattle.beside.specs.Beside.{programmes_of}
-use Rattle.superframe.specs.Take.{beside_with, refused_with, take_answer}
+use Rattle.superframe.specs.Take.{beside_with, next_state, handed}
 use Rattle.history.specs.Calls.{Call, Accepted, LostIn, HeardAt, Silent}
 use Rattle.superframe.specs.declared.state.State.{State}
-use Rattle.superframe.specs.declared.taking.Taken.{Taken}
 use Rattle.history.proofs.Loss.{lose-keeps-first, lose-twice}
-use Rattle.history.proofs.Answers.{numbered, answer-is}
+use Rattle.history.proofs.Answers.{numbered, accepted-is, lost-is}
 
 -- ---- one call
 module _ (s : State) (k : Call s) where
@@ -35,20 +34,19 @@ module _ (s : State) (k : Call s) where
   heard-at : (factors : List ℕ) → s.next ≡ factors → Accepted k → HeardAt k factors
   heard-at factors e z = subst (HeardAt k) e (heard z)
 
-  pub taken_next : Accepted k → (k.answer.next.next ≡ s.after) × (k.answer.next.after ≡ (programmes_of k.bytes).factors)
-  unfolding take_answer beside_with
-  taken_next z = (ap (λ (r : Taken). r.next.next) (answer-is s k 0 z), ap (λ (r : Taken). r.next.after) (answer-is s k 0 z))
+  pub taken_next : Accepted k → ((next_state k.answer).next ≡ s.after) × ((next_state k.answer).after ≡ (programmes_of k.bytes).factors)
+  unfolding beside_with
+  taken_next z = let is = accepted-is s k z in (rw is, rw is)
 
-  pub taken-programmes : Accepted k → k.answer.programmes ≡ programmes_of k.bytes
-  unfolding take_answer beside_with
-  taken-programmes z = ap (λ (r : Taken). r.programmes) (answer-is s k 0 z)
+  pub taken-programmes : Accepted k → (handed k.answer).programmes ≡ programmes_of k.bytes
+  unfolding beside_with
+  taken-programmes z = rw (accepted-is s k z)
 
-  pub lost-state : LostIn k → k.answer.next ≡ lost_state s
-  unfolding take_answer refused_with
-  lost-state z = ap (λ (r : Taken). r.next) (answer-is s k 3 z)
+  pub lost-state : LostIn k → next_state k.answer ≡ lost_state s
+  lost-state z = rw (lost-is s k z)
 
   -- taken or lost, the factors move on by one
-  moved : Accepted k ⊎ LostIn k → k.answer.next.next ≡ s.after
+  moved : Accepted k ⊎ LostIn k → (next_state k.answer).next ≡ s.after
   moved = ⊎_elim (λ z. (taken_next z).0) (λ z. ap (λ (t : State). t.next) (lost-state z))
 
 -- ---- no factors
@@ -69,29 +67,29 @@ silent-at s k e z =
     record { sounds = h.sounds ∙ (silent k.radius k.bytes).0; marks = h.marks ∙ (silent k.radius k.bytes).1 }
 
 -- ---- three calls
-module _ (s : State) (first : Call s) (second : Call first.answer.next) where
-  pub two-ahead : (third : Call second.answer.next) → Accepted first → Accepted second ⊎ LostIn second → Accepted third → HeardAt third (programmes_of first.bytes).factors
-  two-ahead third a b = heard-at second.answer.next third _ (moved first.answer.next second b ∙ (taken_next s first a).1)
+module _ (s : State) (first : Call s) (second : Call (next_state first.answer)) where
+  pub two-ahead : (third : Call (next_state second.answer)) → Accepted first → Accepted second ⊎ LostIn second → Accepted third → HeardAt third (programmes_of first.bytes).factors
+  two-ahead third a b = heard-at (next_state second.answer) third _ (moved (next_state first.answer) second b ∙ (taken_next s first a).1)
 
   pub loss-next : LostIn first → Accepted second → HeardAt second s.after
-  loss-next a = heard-at first.answer.next second _ (ap (λ (t : State). t.next) (lost-state s first a))
+  loss-next a = heard-at (next_state first.answer) second _ (ap (λ (t : State). t.next) (lost-state s first a))
 
-  pub loss-none : (third : Call second.answer.next) → LostIn first → Accepted second ⊎ LostIn second → Accepted third → Silent third
-  loss-none third a b = silent-at second.answer.next third (moved first.answer.next second b ∙ ap (λ (t : State). t.after) (lost-state s first a))
+  pub loss-none : (third : Call (next_state second.answer)) → LostIn first → Accepted second ⊎ LostIn second → Accepted third → Silent third
+  loss-none third a b = silent-at (next_state second.answer) third (moved (next_state first.answer) second b ∙ ap (λ (t : State). t.after) (lost-state s first a))
 
 -- ---- a superframe that is lost through `lose`
-pub two-ahead-lose : (s : State) (first : Call s) (third : Call (after_loss first.answer.next)) → Accepted first → number_in (lost_with first.answer.next) ≡ 0
+pub two-ahead-lose : (s : State) (first : Call s) (third : Call (after_loss (next_state first.answer))) → Accepted first → number_in (lost_with (next_state first.answer)) ≡ 0
     → Accepted third → HeardAt third (programmes_of first.bytes).factors
 two-ahead-lose s first third a b =
-    let t = first.answer.next in
+    let t = next_state first.answer in
     heard-at (after_loss t) third _ ((lose-keeps-first t b).0 ∙ (taken_next s first a).1)
 
 module _ (s : State) (h : number_in (lost_with s) ≡ 0) where
   pub lose-next : (second : Call (after_loss s)) → Accepted second → HeardAt second s.after
   lose-next second = heard-at (after_loss s) second _ (lose-keeps-first s h).0
 
-  pub lose-none : (second : Call (after_loss s)) (third : Call second.answer.next) → Accepted second ⊎ LostIn second → Accepted third → Silent third
-  lose-none second third b = silent-at second.answer.next third (moved (after_loss s) second b ∙ (lose-keeps-first s h).1)
+  pub lose-none : (second : Call (after_loss s)) (third : Call (next_state second.answer)) → Accepted second ⊎ LostIn second → Accepted third → Silent third
+  lose-none second third b = silent-at (next_state second.answer) third (moved (after_loss s) second b ∙ (lose-keeps-first s h).1)
 
   pub lose-lose-none : number_in (lost_with (after_loss s)) ≡ 0 → (third : Call (after_loss (after_loss s))) → Accepted third → Silent third
   lose-lose-none again third = silent-at (after_loss (after_loss s)) third (rw (lose-twice s h again))

@@ -1,5 +1,4 @@
 -- What any superframe can carry beside its sound, whatever its bytes.
---     sync-below            the bits of a sync are bits
 --     scale_small           a scale word reads as two factors from 0 to 7, or as number 5
 --     number_small          so a programme's number is 0 or 5
 --     factor-small          and the factor of a channel 0 to 8
@@ -12,23 +11,13 @@ use native.Mathlib.Omega.{arith}
 use lib.Dec.{eqb}
 use lib.ListN.{get_or, take}
 use Rattle.bits.specs.Answer.{Answer}
-use Rattle.bits.specs.Digits.{Below}
 use Rattle.bits.proofs.Tests.{either_way}
-use Rattle.bits.proofs.Digits.{below-drop, below-tab}
-use Rattle.bits.proofs.Bits.{bit_at-below}
 use Rattle.nearest.specs.Reading.{read_scale}
 use Rattle.nearest.proofs.Fewest.{single-read, shared-read}
 use Rattle.nearest.proofs.Search.{single-or-shared}
 use Rattle.nearest.proofs.ExtraBits.{extra-reading}
-use Rattle.frame.specs.Frame.{service_in}
-use Rattle.frame.specs.Read.{service_read}
-use Rattle.tape.specs.Tape.{frame_at}
 use Rattle.beside.proofs.Scales.{extra-bits-below}
-use Rattle.beside.specs.Beside.{extra_bits, extra_of, factor_or, side_of, factor_read, service_bit, service_bits, sync_of, six_and_sync}
-
-pub sync-below : (sf : List ℕ) → Below 2 (six_and_sync sf).sync
-unfolding six_and_sync sync_of service_bits service_bit service_read service_in
-sync-below sf = below-drop 2 48 (service_bits sf) (below-tab 2 64 (service_bit sf) (λ f l. bit_at-below (frame_at sf f) 11))
+use Rattle.beside.specs.Beside.{extra_bits, extra_of, factor_or, side_of, factor_read}
 
 pub record Small (a : Answer ℕ) : Type 0 where
   pub number : (a.number ≡ 0) ⊎ (a.number ≡ 5)

@@ -16,6 +16,11 @@ use borrow.Author.Tests.{eqb-true, eqb-false}
 use lib.Dec.{eqb}
 use lib.IntN.{ℤ, pos}
 use lib.ListN.{length, get_or}
+use Rattle.std.specs.declared.result.Result.{Result}
+use Rattle.std.specs.declared.result.Result.TheVariants.{Ok, Err}
+use Rattle.bits.specs.Refused.{number_in}
+use Rattle.bits.specs.declared.refusal.Refusal.{Refusal}
+use Rattle.bits.specs.declared.refusal.Refusal.TheVariants.{Sync}
 use Rattle.bits.specs.Table.{tabulate}
 use Rattle.bits.proofs.Table.{get_or-tab, tab-ext}
 use Rattle.bits.proofs.Tests.{either_way}
@@ -39,21 +44,20 @@ use Rattle.beside.proofs.Stands.{five-missing}
 use Rattle.running.specs.Running.{with_taken}
 use Rattle.running.specs.declared.Running.{Running}
 use Rattle.superframe.specs.State.{joined_state, state_in_range}
-use Rattle.superframe.specs.Take.{takable, take_number, beside_with, refused_with, take_answer}
+use Rattle.superframe.specs.Take.{takable, taking, beside_with, take_answer, outcome, next_state, number_told, handed}
 use Rattle.superframe.specs.declared.state.State.{State}
-use Rattle.superframe.specs.declared.taking.Taken.{Taken}
 use Rattle.history.specs.Calls.{Call, Accepted, LostIn}
-use Rattle.history.specs.Alike.{OffProgramme, Alike, LentAlike, SameAnswer, AnswerBut, SoundBut}
+use Rattle.history.specs.Alike.{OffProgramme, Alike, LentAlike, with_fresh, SameAnswer, AnswerBut, SoundBut}
 use Rattle.history.proofs.OneScale as one
 use Rattle.history.proofs.Ranges.{take-in-range}
-use Rattle.history.proofs.Answers.{numbered, answer-is, accepted-in-range, accepted-radius}
+use Rattle.history.proofs.Answers.{numbered, told, was-taken, was-lost, answer-is, accepted-in-range, accepted-radius}
 use Rattle.history.proofs.Ahead.{heard, taken-programmes, two-ahead}
 use Rattle.history.proofs.Served.{lost-range}
 
 -- ---- silence
-module _ (s : State) (first : Call s) (second : Call first.answer.next) (third : Call second.answer.next)
+module _ (s : State) (first : Call s) (second : Call (next_state first.answer)) (third : Call (next_state second.answer))
     (a : Accepted first) (b : Accepted second ⊎ LostIn second) (c : Accepted third) where
-  pub five-silent : (q side f : ℕ) → 1 ≤ q → q ≤ 16 → 1 ≤ side → side ≤ 2 → 1 ≤ f → f ≤ 64 → entry first.answer.programmes.numbers q 0 ≡ 5
+  pub five-silent : (q side f : ℕ) → 1 ≤ q → q ≤ 16 → 1 ≤ side → side ≤ 2 → 1 ≤ f → f ≤ 64 → entry (handed first.answer).programmes.numbers q 0 ≡ 5
       → (entry third.samples (place_in f (channel_of q side)) (pos 0) ≡ pos 0) × (entry third.marks (place_in f (channel_of q side)) 0 ≡ 3)
   five-silent q side f k l m u v w e =
       let factors = (programmes_of first.bytes).factors in
@@ -71,51 +75,58 @@ picked_both true P h k = h
 picked_both false P h k = k
 
 -- ---- the same bytes, given to two states that are alike
-number_same : (radius : ℕ) (s s' : State) (sf sf' : List ℕ) (samples : List ℤ) (marks : List ℕ) → length sf ≡ length sf' → synced sf ≡ synced sf' → state_in_range s ≡ state_in_range s' → s.totals ≡ s'.totals
-    → take_number radius s sf samples marks ≡ take_number radius s' sf' samples marks
-unfolding take_number takable
-number_same radius s s' sf sf' samples marks e f g h = rw (e, f, g, h)
+taking_same : (radius : ℕ) (s s' : State) (sf sf' : List ℕ) (samples : List ℤ) (marks : List ℕ) → length sf ≡ length sf' → synced sf ≡ synced sf' → state_in_range s ≡ state_in_range s' → s.totals ≡ s'.totals
+    → taking radius s sf samples marks ≡ taking radius s' sf' samples marks
+unfolding taking takable
+taking_same radius s s' sf sf' samples marks e f g h = rw (e, f, g, h)
 
-moved-in-range : (s : State) (k : Call s) → Accepted k ⊎ LostIn k → state_in_range k.answer.next ≡ true
+-- the same of two calls that were lent the same lists
+asked_same : (s s' : State) (k : Call s) (k' : Call s') (lent : LentAlike k k') → length k.bytes ≡ length k'.bytes → synced k.bytes ≡ synced k'.bytes → state_in_range s ≡ state_in_range s' → s.totals ≡ s'.totals
+    → outcome k.answer ≡ outcome k'.answer
+asked_same s s' k k' lent e f g h =
+    told s k
+    ∙ ap₂ (λ (x : List ℤ) (m : List ℕ). taking k.radius s k.bytes x m) lent.samples lent.marks
+    ∙ ap (λ (r : ℕ). taking r s k.bytes k'.lent-samples k'.lent-marks) lent.radius
+    ∙ taking_same k'.radius s s' k.bytes k'.bytes k'.lent-samples k'.lent-marks e f g h
+    ∙ sym (told s' k')
+
+moved-in-range : (s : State) (k : Call s) → Accepted k ⊎ LostIn k → state_in_range (next_state k.answer) ≡ true
 moved-in-range s k = ⊎_elim (λ z. take-in-range s k (accepted-in-range s k z)) (λ z. take-in-range s k (lost-range s k z))
 
-answers-same : (radius n : ℕ) (s s' : State) (sf : List ℕ) → s.service ≡ s'.service → SameAnswer (take_answer radius n s sf) (take_answer radius n s' sf)
-unfolding take_answer beside_with refused_with
-answers-same radius n s s' sf e = either_way (eqb n 0) (λ t. rw (t, e)) (λ t. rw t)
+answers-same : (radius : ℕ) (o : Result Unit Refusal) (s s' : State) (sf : List ℕ) → s.service ≡ s'.service → SameAnswer (take_answer radius o s sf) (take_answer radius o s' sf)
+unfolding beside_with
+answers-same radius (Ok _) s s' sf e = rw e
+answers-same radius (Err why) s s' sf e = refl
 
 module _ (P R : List ℕ → List ℕ → Type 0) (s s' : State) (alike : Alike P R s s') (k : Call s) (k' : Call s') (bytes : k.bytes ≡ k'.bytes) (lent : LentAlike k k') where
-  same_number : k.answer.number ≡ k'.answer.number
-  same_number =
-      sym (numbered s k)
-      ∙ ap₂ (λ (x : List ℤ) (m : List ℕ). take_number k.radius s k.bytes x m) lent.samples lent.marks
-      ∙ ap (λ (r : ℕ). take_number r s k.bytes k'.lent-samples k'.lent-marks) lent.radius
-      ∙ number_same k'.radius s s' k.bytes k'.bytes k'.lent-samples k'.lent-marks (ap length bytes) (ap synced bytes) alike.range alike.totals
-      ∙ numbered s' k'
+  same-outcome : outcome k.answer ≡ outcome k'.answer
+  same-outcome = asked_same s s' k k' lent (ap length bytes) (ap synced bytes) alike.range alike.totals
+
+  same_number : number_told k.answer ≡ number_told k'.answer
+  same_number = ap number_in same-outcome
 
   -- the same answer, by the first call's radius and bytes
-  as-mine : (n : ℕ) → take_answer k'.radius n s' k'.bytes ≡ take_answer k.radius n s' k.bytes
-  as-mine n = ap₂ (λ (r : ℕ) (sf : List ℕ). take_answer r n s' sf) (sym lent.radius) (sym bytes)
+  answers-by : (o : Result Unit Refusal) → outcome k.answer ≡ o → (k.answer ≡ take_answer k.radius o s k.bytes) × (k'.answer ≡ take_answer k.radius o s' k.bytes)
+  answers-by o e = (
+    answer-is s k o e,
+    answer-is s' k' o (sym same-outcome ∙ e) ∙ ap₂ (λ (r : ℕ) (sf : List ℕ). take_answer r o s' sf) (sym lent.radius) (sym bytes),
+  )
 
   pub step-answers : SameAnswer k.answer k'.answer
   step-answers =
-      let n = k.answer.number in
-      let mine = answer-is s k n refl in
-      let theirs = answer-is s' k' n (sym same_number) ∙ as-mine n in
-      rw (mine, theirs) (answers-same k.radius n s s' k.bytes alike.service)
+      let are = answers-by (outcome k.answer) refl in
+      ap with_fresh are.0 ∙ answers-same k.radius (outcome k.answer) s s' k.bytes alike.service ∙ sym (ap with_fresh are.1)
 
-  next-is : (n : ℕ) → k.answer.number ≡ n → (k.answer.next ≡ (take_answer k.radius n s k.bytes).next) × (k'.answer.next ≡ (take_answer k.radius n s' k.bytes).next)
-  next-is n e = (
-    ap (λ (r : Taken). r.next) (answer-is s k n e),
-    ap (λ (r : Taken). r.next) (answer-is s' k' n (sym same_number ∙ e) ∙ as-mine n),
-  )
+  next-is : (o : Result Unit Refusal) → outcome k.answer ≡ o → (next_state k.answer ≡ next_state (take_answer k.radius o s k.bytes)) × (next_state k'.answer ≡ next_state (take_answer k.radius o s' k.bytes))
+  next-is o e = let are = answers-by o e in (ap next_state are.0, ap next_state are.1)
 
-  ranges : Accepted k ⊎ LostIn k → state_in_range k.answer.next ≡ state_in_range k'.answer.next
+  ranges : Accepted k ⊎ LostIn k → state_in_range (next_state k.answer) ≡ state_in_range (next_state k'.answer)
   ranges m = moved-in-range s k m ∙ sym (moved-in-range s' k' (⊎_elim (λ z. inl (sym same_number ∙ z)) (λ z. inr (sym same_number ∙ z)) m))
 
-  taken-alike : Accepted k → Alike R ◌≡◌ k.answer.next k'.answer.next
-  unfolding take_answer beside_with
+  taken-alike : Accepted k → Alike R ◌≡◌ (next_state k.answer) (next_state k'.answer)
+  unfolding beside_with
   taken-alike z =
-      let is = next-is 0 z in
+      let is = next-is (Ok tt) (was-taken s k z) in
       record {
         next = rw (is.0, is.1) alike.after;
         after = rw (is.0, is.1);
@@ -124,10 +135,9 @@ module _ (P R : List ℕ → List ℕ → Type 0) (s s' : State) (alike : Alike 
         range = ranges (inl z);
       }
 
-  lost-alike : LostIn k → Alike R ◌≡◌ k.answer.next k'.answer.next
-  unfolding take_answer refused_with
+  lost-alike : LostIn k → Alike R ◌≡◌ (next_state k.answer) (next_state k'.answer)
   lost-alike z =
-      let is = next-is 3 z in
+      let is = next-is (Err Sync) (was-lost s k z) in
       record {
         next = rw (is.0, is.1) alike.after;
         after = rw (is.0, is.1);
@@ -136,7 +146,7 @@ module _ (P R : List ℕ → List ℕ → Type 0) (s s' : State) (alike : Alike 
         range = ranges (inr z);
       }
 
-  pub step-alike : Accepted k ⊎ LostIn k → Alike R ◌≡◌ k.answer.next k'.answer.next
+  pub step-alike : Accepted k ⊎ LostIn k → Alike R ◌≡◌ (next_state k.answer) (next_state k'.answer)
   step-alike = ⊎_elim taken-alike lost-alike
 
   -- the same factors give the same sound
@@ -221,28 +231,29 @@ module _ (q : ℕ) (low : 1 ≤ q) (high : q ≤ 16) (sf sf' : List ℕ) (d : On
             ∙ sym (get_or-tab 32 (factor_read sf') c 0 l);
       }
 
-  answer-but : (s : State) → AnswerBut q (take_answer radius 0 s sf) (take_answer radius 0 s sf')
-  unfolding take_answer beside_with
+  answer-but : (s : State) → AnswerBut q (take_answer radius (Ok tt) s sf) (take_answer radius (Ok tt) s sf')
+  unfolding beside_with
   answer-but s =
       let six = one.six-same q low high sf sf' d in
       record {
         number = refl;
-        wrong = one.wrong-sum-same q low high sf sf' d;
-        blocks = blocks-same;
-        words = words_same;
-        numbers = numbers-same;
-        factors = factors-off;
-        places = places_same;
-        six = rw six;
-        position = rw six;
-        service = rw six;
-        complete = rw six;
-        labels = rw six;
+        handed-out = record {
+          wrong = one.wrong-sum-same q low high sf sf' d;
+          blocks = blocks-same;
+          words = words_same;
+          numbers = numbers-same;
+          factors = factors-off;
+          places = places_same;
+          six = rw six;
+          position = refl;
+          kind = rw six;
+          labels = rw six;
+        };
       }
 
-  states-alike : (s : State) → state_in_range (take_answer radius 0 s sf).next ≡ state_in_range (take_answer radius 0 s sf').next
-      → Alike ◌≡◌ (OffProgramme q) (take_answer radius 0 s sf).next (take_answer radius 0 s sf').next
-  unfolding take_answer beside_with
+  states-alike : (s : State) → state_in_range (next_state (take_answer radius (Ok tt) s sf)) ≡ state_in_range (next_state (take_answer radius (Ok tt) s sf'))
+      → Alike ◌≡◌ (OffProgramme q) (next_state (take_answer radius (Ok tt) s sf)) (next_state (take_answer radius (Ok tt) s sf'))
+  unfolding beside_with
   states-alike s e =
       record { next = refl; after = factors-off; service = rw (one.six-same q low high sf sf' d); totals = ap (with_taken s.totals) blocks-same; range = e }
 
@@ -252,7 +263,7 @@ joined_same t t' h =
     ap₂ (λ (f : List ℕ) (v : Service). joined_state (record { next = f; after = t.after }) v t.totals) h.next h.service
     ∙ ap₂ (λ (f : List ℕ) (n : Running). joined_state (record { next = t'.next; after = f }) t'.service n) h.after h.totals
 
-module _ {q : ℕ} (s s' : State) (k : Call s) (k' : Call s') (bytes : k.bytes ≡ k'.bytes) (lent : LentAlike k k') (number : k.answer.number ≡ k'.answer.number)
+module _ {q : ℕ} (s s' : State) (k : Call s) (k' : Call s') (bytes : k.bytes ≡ k'.bytes) (lent : LentAlike k k') (number : number_told k.answer ≡ number_told k'.answer)
     {R : List ℕ → List ℕ → Type 0} (alike : Alike (OffProgramme q) R s s') where
   -- at one place, where the two factors are the same
   sample-but : (f c : ℕ) → f < 64 → c < 32 → c / 2 ≢ q - 1 → get_or (samples_of k.radius k.bytes s.next) (32 * f + c) (pos 0) ≡ get_or (samples_of k.radius k.bytes s'.next) (32 * f + c) (pos 0)
@@ -274,10 +285,10 @@ module _ {q : ℕ} (s s' : State) (k : Call s) (k' : Call s') (bytes : k.bytes �
       record {
         samples = λ f c l m n.
             rw (k.took.sound, k'.took.sound, mine, theirs, ← lent.radius, ← bytes, lent.samples)
-            (picked_both (eqb k.answer.number 0) (λ (x y : List ℤ). get_or x (32 * f + c) (pos 0) ≡ get_or y (32 * f + c) (pos 0)) (sample-but f c l m n) refl);
+            (picked_both (eqb (number_told k.answer) 0) (λ (x y : List ℤ). get_or x (32 * f + c) (pos 0) ≡ get_or y (32 * f + c) (pos 0)) (sample-but f c l m n) refl);
         marks = λ f c l m n.
             rw (k.took.marked, k'.took.marked, mine, theirs, ← lent.radius, ← bytes, lent.marks)
-            (picked_both (eqb k.answer.number 0) (λ (x y : List ℕ). get_or x (32 * f + c) 0 ≡ get_or y (32 * f + c) 0) (mark-but f c l m n) refl);
+            (picked_both (eqb (number_told k.answer) 0) (λ (x y : List ℕ). get_or x (32 * f + c) 0 ≡ get_or y (32 * f + c) 0) (mark-but f c l m n) refl);
       }
 
 -- ---- three superframes
@@ -286,13 +297,12 @@ module _ (q : ℕ) (low : 1 ≤ q) (high : q ≤ 16) (s : State) (first first' :
   small : first.radius ≤ largest_radius
   small = accepted-radius s first a
 
+  also-taken : outcome first'.answer ≡ Ok tt
+  also-taken =
+      sym (asked_same s s first first' lent (d.size ∙ sym d.size') (one.sync-same q low high first.bytes first'.bytes d) refl refl) ∙ was-taken s first a
+
   first-number : Accepted first'
-  first-number =
-      sym (numbered s first')
-      ∙ sym (ap₂ (λ (x : List ℤ) (m : List ℕ). take_number first'.radius s first'.bytes x m) lent.samples lent.marks)
-      ∙ ap (λ (r : ℕ). take_number r s first'.bytes first.lent-samples first.lent-marks) (sym lent.radius)
-      ∙ sym (number_same first.radius s s first.bytes first'.bytes first.lent-samples first.lent-marks (d.size ∙ sym d.size') (one.sync-same q low high first.bytes first'.bytes d) refl refl)
-      ∙ numbered s first ∙ a
+  first-number = ap number_in also-taken
 
   pub first-sound : (first.samples ≡ first'.samples) × (first.marks ≡ first'.marks)
   first-sound =
@@ -304,36 +314,43 @@ module _ (q : ℕ) (low : 1 ≤ q) (high : q ≤ 16) (s : State) (first first' :
             ∙ ap (λ (r : ℕ). marks_of r first'.bytes s.next) lent.radius ∙ sym h'.marks,
       )
 
-  pub first_alike : AnswerBut q first.answer first'.answer
-  first_alike = rw (answer-is s first 0 a, answer-is s first' 0 first-number, ← lent.radius) (answer-but q low high first.bytes first'.bytes d first.radius small s)
+  -- both answers, by the first call's radius
+  answers : (first.answer ≡ take_answer first.radius (Ok tt) s first.bytes) × (first'.answer ≡ take_answer first.radius (Ok tt) s first'.bytes)
+  answers = (
+    answer-is s first (Ok tt) (was-taken s first a),
+    answer-is s first' (Ok tt) also-taken ∙ ap (λ (r : ℕ). take_answer r (Ok tt) s first'.bytes) (sym lent.radius),
+  )
 
-  between : Alike ◌≡◌ (OffProgramme q) first.answer.next first'.answer.next
+  pub first_alike : AnswerBut q first.answer first'.answer
+  first_alike = rw (answers.0, answers.1) (answer-but q low high first.bytes first'.bytes d first.radius small s)
+
+  between : Alike ◌≡◌ (OffProgramme q) (next_state first.answer) (next_state first'.answer)
   between =
-      let is = ap (λ (r : Taken). r.next) (answer-is s first 0 a) in
-      let is' = ap (λ (r : Taken). r.next) (answer-is s first' 0 first-number ∙ ap (λ (r : ℕ). take_answer r 0 s first'.bytes) (sym lent.radius)) in
+      let is = ap next_state answers.0 in
+      let is' = ap next_state answers.1 in
       let ranges = sym (ap state_in_range is) ∙ take-in-range s first (accepted-in-range s first a) ∙ sym (take-in-range s first' (accepted-in-range s first' first-number)) ∙ ap state_in_range is' in
       rw (is, is') (states-alike q low high first.bytes first'.bytes d first.radius small s ranges)
 
-  module _ (second : Call first.answer.next) (second' : Call first'.answer.next) (bytes : second.bytes ≡ second'.bytes) (given : LentAlike second second')
+  module _ (second : Call (next_state first.answer)) (second' : Call (next_state first'.answer)) (bytes : second.bytes ≡ second'.bytes) (given : LentAlike second second')
       (b : Accepted second ⊎ LostIn second) where
     pub second_alike : SameAnswer second.answer second'.answer × ((second.samples ≡ second'.samples) × (second.marks ≡ second'.marks))
     second_alike = (
-      step-answers ◌≡◌ (OffProgramme q) first.answer.next first'.answer.next between second second' bytes given,
-      step-sound ◌≡◌ (OffProgramme q) first.answer.next first'.answer.next between second second' bytes given between.next,
+      step-answers ◌≡◌ (OffProgramme q) (next_state first.answer) (next_state first'.answer) between second second' bytes given,
+      step-sound ◌≡◌ (OffProgramme q) (next_state first.answer) (next_state first'.answer) between second second' bytes given between.next,
     )
 
-    then-alike : Alike (OffProgramme q) ◌≡◌ second.answer.next second'.answer.next
-    then-alike = step-alike ◌≡◌ (OffProgramme q) first.answer.next first'.answer.next between second second' bytes given b
+    then-alike : Alike (OffProgramme q) ◌≡◌ (next_state second.answer) (next_state second'.answer)
+    then-alike = step-alike ◌≡◌ (OffProgramme q) (next_state first.answer) (next_state first'.answer) between second second' bytes given b
 
-    module _ (third : Call second.answer.next) (third' : Call second'.answer.next) (those : third.bytes ≡ third'.bytes) (places : LentAlike third third')
+    module _ (third : Call (next_state second.answer)) (third' : Call (next_state second'.answer)) (those : third.bytes ≡ third'.bytes) (places : LentAlike third third')
         (c : Accepted third ⊎ LostIn third) where
       pub third-alike : SameAnswer third.answer third'.answer
-      third-alike = step-answers (OffProgramme q) ◌≡◌ second.answer.next second'.answer.next then-alike third third' those places
+      third-alike = step-answers (OffProgramme q) ◌≡◌ (next_state second.answer) (next_state second'.answer) then-alike third third' those places
 
-      pub states-one : third.answer.next ≡ third'.answer.next
+      pub states-one : next_state third.answer ≡ next_state third'.answer
       states-one =
-          let last = step-alike (OffProgramme q) ◌≡◌ second.answer.next second'.answer.next then-alike third third' those places c in
-          joined_same third.answer.next third'.answer.next last
+          let last = step-alike (OffProgramme q) ◌≡◌ (next_state second.answer) (next_state second'.answer) then-alike third third' those places c in
+          joined_same (next_state third.answer) (next_state third'.answer) last
 
       pub third-sound : SoundBut q third third'
-      third-sound = sound-but second.answer.next second'.answer.next third third' those places (ap (λ (r : Taken). r.number) third-alike) then-alike
+      third-sound = sound-but (next_state second.answer) (next_state second'.answer) third third' those places (same_number (OffProgramme q) ◌≡◌ (next_state second.answer) (next_state second'.answer) then-alike third third' those places) then-alike

@@ -13,14 +13,17 @@ use mathlib.Core.List.{List}
 use Prim.Native.Nat.{ℕ}
 use native.Mathlib.Omega.{arith}
 use Rattle.bits.specs.Table.{every}
-use Rattle.std.specs.declared.result.Result.TheVariants.{Ok}
+use Rattle.std.specs.declared.result.Result.{Result}
+use Rattle.std.specs.declared.result.Result.TheVariants.{Ok, Err}
 use Rattle.bits.specs.Bits.{all_below}
 use Rattle.bits.specs.Refused.{number_in}
+use Rattle.bits.specs.declared.refusal.Refusal.{Refusal}
 use Rattle.bits.proofs.Tests.{either_way, both, both_right}
-use Rattle.service.specs.Service.{searching_service, in_range}
+use Rattle.service.specs.Service.{searching_service, in_range, served}
+use Rattle.service.specs.declared.Served.{Served}
 use Rattle.running.specs.Running.{has_room, no_running, with_lost}
 use Rattle.running.proofs.Ranges as running
-use Rattle.superframe.specs.State.{missing, factors_of, joined_state, fresh_state, state_in_range, lost_factors, lost_state, lost_with, serviced_with, after_loss}
+use Rattle.superframe.specs.State.{missing, factors_of, joined_state, fresh_state, state_in_range, lost_factors, lost_state, lost_with, serviced_from, serviced_with, next_served, after_loss, after_service}
 use Rattle.superframe.proofs.Parts.{factors-in-range, running-in-range, joined-in-range}
 use Rattle.superframe.specs.declared.state.State.{State}
 
@@ -67,6 +70,11 @@ pub lose-twice : (s : State) → number_in (lost_with s) ≡ 0 → number_in (lo
     → after_loss (after_loss s) ≡ joined_state (factors_of fresh_state) fresh_state.service (with_lost (with_lost s.totals))
 lose-twice s a b = rw (lose-accepted (after_loss s) b, lose-accepted s a)
 
-pub service-keeps-factors : (s : State) (six sync : List ℕ) → factors_of (serviced_with s six sync).next ≡ factors_of s
+-- whatever the service answers
+factors-kept : (s : State) (r : Result Served Refusal) → factors_of (next_served s (serviced_from s r)) ≡ factors_of s
+factors-kept s (Ok r) = refl
+factors-kept s (Err why) = refl
+
+pub service-keeps-factors : (s : State) (six sync : List ℕ) → factors_of (after_service s six sync) ≡ factors_of s
 unfolding serviced_with
-service-keeps-factors s six sync = refl
+service-keeps-factors s six sync = either_way (state_in_range s) (λ t. rw t (factors-kept s (served s.service six sync))) (λ t. rw t)

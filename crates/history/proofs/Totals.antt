@@ -9,12 +9,15 @@ use mathlib.Core.Bool.{true, false, true≢false, cond}
 use mathlib.Core.List.{List}
 use Prim.Native.Nat.{ℕ, ◌+◌, ◌-◌, ◌*◌, ◌≤◌}
 use native.Mathlib.Omega.{arith}
+use borrow.Author.Tests.{ne_eqb}
 use lib.Dec.{eqb}
 use lib.ListN.{get_or-replicate}
 use Rattle.std.specs.Result.{result_unwrap_or}
 use Rattle.std.specs.declared.result.Result.{Result}
+use Rattle.std.specs.declared.result.Result.TheVariants.{Ok, Err}
 use Rattle.bits.specs.declared.refusal.Refusal.{Refusal}
-use Rattle.bits.specs.Refused.{number_in}
+use Rattle.bits.specs.Refused.{number_of, number_in}
+use Rattle.bits.proofs.Refused.{not_zero}
 use Rattle.bits.specs.Table.{zeros, total}
 use Rattle.bits.proofs.Tests.{either_way}
 use Rattle.tape.specs.Tape.{kind_in, tallied_by, blocks_of}
@@ -25,11 +28,12 @@ use Rattle.running.specs.Document.{Full}
 use Rattle.running.specs.declared.Running.{Running}
 use Rattle.running.proofs.Adds.{added-at}
 use Rattle.running.proofs.Sums.{sum_is, few}
-use Rattle.superframe.specs.State.{state_in_range, lost_with, reset_with, after_loss, after_reset}
-use Rattle.superframe.specs.Take.{beside_with, refused_with, take_answer}
+use Rattle.superframe.specs.State.{state_in_range, lost_with, next_served, reset_with, after_loss, after_reset}
+use Rattle.superframe.specs.Take.{beside_with, take_answer, outcome, next_state}
 use Rattle.superframe.specs.declared.state.State.{State}
 use Rattle.superframe.specs.declared.state.Serviced.{Serviced}
 use Rattle.superframe.specs.declared.taking.Taken.{Taken}
+use Rattle.superframe.specs.declared.taking.NotTaken.{NotTaken}
 use Rattle.superframe.proofs.Parts.{running-in-range}
 use Rattle.superframe.proofs.Counts.{service-counts}
 use Rattle.history.specs.Totals.{Asked, take, lose, serve, reset, Made, taking, losing, serving, resetting, Run, begun, then, is_reset, since, added_by, lost_by, given_by, blocks_by, Counted}
@@ -42,7 +46,7 @@ made-in-range : (s s' : State) (e : Asked) → Made s e s' → state_in_range s 
 made-in-range s s' e (taking k) h = take-in-range s k h
 made-in-range s s' e (losing r m) h = subst (λ (r : Result State Refusal). state_in_range (result_unwrap_or r s) ≡ true) (sym m) (lose-in-range s h)
 made-in-range s s' e (serving six sync r m) h =
-    subst (λ (r : Serviced). state_in_range r.next ≡ true) (sym m) (service-keeps-range s (record { six = six; sync = sync }) h)
+    subst (λ (r : Result Serviced Refusal). state_in_range (next_served s r) ≡ true) (sym m) (service-keeps-range s (record { six = six; sync = sync }) h)
 made-in-range s s' e (resetting r m) h = subst (λ (r : Result State Refusal). state_in_range (result_unwrap_or r s) ≡ true) (sym m) (reset-in-range s h)
 
 pub run-in-range : (s : State) (es : List Asked) → Run s es → state_in_range s ≡ true
@@ -61,10 +65,13 @@ module _ (t : Running) where
   after (serve n) = t
   after (reset n) = cond (eqb n 0) no_running t
 
-answer-totals : (radius n : ℕ) (s : State) (sf : List ℕ) → (take_answer radius n s sf).next.totals ≡ cond (eqb n 0) (with_taken s.totals (blocks_of radius sf)) (cond (eqb n 3) (with_lost s.totals) s.totals)
-unfolding take_answer beside_with refused_with
-answer-totals radius n s sf =
-    either_way (eqb n 0) (λ t. rw t) (λ t. either_way (eqb n 3) (λ u. rw (t, u)) (λ u. rw (t, u)))
+answer-totals : (radius : ℕ) (o : Result Unit Refusal) (s : State) (sf : List ℕ)
+    → (next_state (take_answer radius o s sf)).totals ≡ cond (eqb (number_in o) 0) (with_taken s.totals (blocks_of radius sf)) (cond (eqb (number_in o) 3) (with_lost s.totals) s.totals)
+unfolding beside_with
+answer-totals radius (Ok _) s sf = refl
+answer-totals radius (Err why) s sf =
+    let some = ne_eqb (number_of why) 0 (not_zero why) in
+    rw some (either_way (eqb (number_of why) 3) (λ u. rw u) (λ u. rw u))
 
 lose-totals : (s : State) → (after_loss s).totals ≡ cond (eqb (number_in (lost_with s)) 0) (with_lost s.totals) s.totals
 unfolding lost_with
@@ -77,10 +84,10 @@ reset-totals s = either_way (state_in_range s) (λ t. rw t) (λ t. rw t)
 made-totals : (s s' : State) (e : Asked) → Made s e s' → s'.totals ≡ after s.totals e
 unfolding after
 made-totals s s' e (taking k) =
-    ap (λ (r : Taken). r.next.totals) (answer-is s k k.answer.number refl) ∙ answer-totals k.radius k.answer.number s k.bytes
+    ap (λ (r : Result Taken NotTaken). (next_state r).totals) (answer-is s k (outcome k.answer) refl) ∙ answer-totals k.radius (outcome k.answer) s k.bytes
 made-totals s s' e (losing r m) =
     subst (λ (r : Result State Refusal). (result_unwrap_or r s).totals ≡ after s.totals (lose (number_in r))) (sym m) (lose-totals s)
-made-totals s s' e (serving six sync r m) = ap (λ (r : Serviced). r.next.totals) m ∙ service-counts s six sync
+made-totals s s' e (serving six sync r m) = ap (λ (r : Result Serviced Refusal). (next_served s r).totals) m ∙ service-counts s six sync
 made-totals s s' e (resetting r m) =
     subst (λ (r : Result State Refusal). (result_unwrap_or r s).totals ≡ after s.totals (reset (number_in r))) (sym m) (reset-totals s)
 

@@ -8,8 +8,8 @@
 --     Silent k              every sample is 0, and every mark 3
 --     SentIn radius sf f p codes extra mask     the block in position p of frame number f was written with these codes, and then changed in the places of a
 --                           mask: at most as many of the 63 protected ones as the radius, and none of bits 64 to 75
-use Rattle.std.specs.Prelude.{ℕ, suc, ◌≤◌, ◌≡◌, true, false, List, ◌++◌, ℤ, pos, length}
-use Rattle.bits.specs.Table.{tabulate, every, zeros}
+use Rattle.std.specs.Prelude.{ℕ, suc, ◌≤◌, ◌≡◌, true, List, ◌++◌, ℤ, pos, length, Result, None}
+use Rattle.bits.specs.Table.{tabulate, every}
 use Rattle.bits.specs.Bits.{are_bits, ones}
 use Rattle.sample.specs.Sample.{is_code}
 use Rattle.block.specs.Layout.{sound, rest}
@@ -18,36 +18,36 @@ use Rattle.tape.specs.Tape.{block_in}
 use Rattle.sound.specs.Sound.{samples_of, marks_of}
 use Rattle.service.specs.Run.{Step}
 use Rattle.beside.specs.Beside.{six_and_sync}
-use Rattle.superframe.specs.Take.{Took}
+use Rattle.superframe.specs.Take.{Took, next_state, number_told, handed}
 use Rattle.superframe.specs.declared.state.State.{State}
 use Rattle.superframe.specs.declared.taking.Taken.{Taken}
+use Rattle.superframe.specs.declared.taking.NotTaken.{NotTaken}
 
 pub record Call (s : State) : Type 0 where
   pub radius : ℕ
   pub bytes : List ℕ
   pub lent-samples : List ℤ
   pub lent-marks : List ℕ
-  pub answer : Taken
+  pub answer : Result Taken NotTaken
   pub samples : List ℤ
   pub marks : List ℕ
   pub took : Took radius s bytes lent-samples lent-marks answer samples marks
 
 abbrev pub Accepted : {s : State} → Call s → Type 0
-Accepted k = k.answer.number ≡ 0
+Accepted k = number_told k.answer ≡ 0
 
 pub record Calls (state : ℕ → State) : Type 0 where
   pub call : (n : ℕ) → Call (state n)
-  pub next : (n : ℕ) → state (suc n) ≡ (call n).answer.next
+  pub next : (n : ℕ) → state (suc n) ≡ next_state (call n).answer
 
 abbrev pub step_in : {s : State} → Call s → Step
 step_in k = record { six = (six_and_sync k.bytes).six; sync = (six_and_sync k.bytes).sync }
 
 pub record LabelsNone {s : State} (k : Call s) : Type 0 where
-  pub complete : k.answer.complete ≡ false
-  pub labels : k.answer.labels ≡ zeros 256
+  pub labels : (handed k.answer).labels ≡ None
 
 abbrev pub LostIn : {s : State} → Call s → Type 0
-LostIn k = k.answer.number ≡ 3
+LostIn k = number_told k.answer ≡ 3
 
 pub record HeardAt {s : State} (k : Call s) (factors : List ℕ) : Type 0 where
   pub sounds : k.samples ≡ samples_of k.radius k.bytes factors

@@ -1,5 +1,6 @@
 -- Any run of calls from a fresh state, and what was given in it, counted over the calls and not over the state (document 02, P7). Programmes count from 1.
 --     Asked             a call as its caller knows it: what was asked, and the number that it answered
+--     number_served r    the number that six service bytes are answered with
 --     Made s e s'       call e was made on state s, kept its promise, and handed back state s'
 --     Run s es          "any run of calls from a fresh state, each given the state that the one before handed back": the calls es, the last one first, and the
 --                       state s behind them. Refused calls are among them
@@ -13,14 +14,23 @@
 use Rattle.std.specs.Prelude.{ℕ, ◌≤◌, ◌≡◌, Bool, false, cond, List, [], ◌∷◌, eqb}
 use Rattle.std.specs.Result.{result_unwrap_or}
 use Rattle.std.specs.declared.result.Result.{Result}
+use Rattle.std.specs.declared.result.Result.TheVariants.{Ok, Err}
+use Rattle.bits.specs.Refused as refusals
+use Rattle.service_sync.specs.Sync.{number_of}
 use Rattle.bits.specs.declared.refusal.Refusal.{Refusal}
 use Rattle.bits.specs.Refused.{number_in}
 use Rattle.bits.specs.Table.{total}
 use Rattle.tape.specs.Document.{entry, programme_blocks}
-use Rattle.superframe.specs.State.{fresh_state, lost_with, serviced_with, reset_with}
+use Rattle.superframe.specs.State.{fresh_state, lost_with, serviced_with, next_served, reset_with}
 use Rattle.superframe.specs.declared.state.State.{State}
 use Rattle.superframe.specs.declared.state.Serviced.{Serviced}
 use Rattle.history.specs.Calls.{Call}
+use Rattle.superframe.specs.Take.{next_state, number_told}
+
+-- 7 where the sync is neither of the two, which refuses nothing
+abbrev pub number_served : Result Serviced Refusal → ℕ
+number_served (Ok r) = number_of r.kind
+number_served (Err why) = refusals.number_of why
 
 pub data Asked : Type 0 where
   take : (radius : ℕ) (superframe : List ℕ) (number : ℕ) → Asked
@@ -29,9 +39,9 @@ pub data Asked : Type 0 where
   reset : (number : ℕ) → Asked
 
 pub data Made (s : State) : Asked → State → Type 0 where
-  taking : (k : Call s) → Made s (take k.radius k.bytes k.answer.number) k.answer.next
+  taking : (k : Call s) → Made s (take k.radius k.bytes (number_told k.answer)) (next_state k.answer)
   losing : (r : Result State Refusal) → r ≡ lost_with s → Made s (lose (number_in r)) (result_unwrap_or r s)
-  serving : (six sync : List ℕ) (r : Serviced) → r ≡ serviced_with s six sync → Made s (serve r.number) r.next
+  serving : (six sync : List ℕ) (r : Result Serviced Refusal) → r ≡ serviced_with s six sync → Made s (serve (number_served r)) (next_served s r)
   resetting : (r : Result State Refusal) → r ≡ reset_with s → Made s (reset (number_in r)) (result_unwrap_or r s)
 
 pub data Run : State → List Asked → Type 0 where

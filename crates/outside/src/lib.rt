@@ -7,6 +7,7 @@ ghost use Rattle.std.specs.Prelude.{◌≡◌, ◌+◌, ◌≤◌, ◌<◌, leng
 ghost use Rattle.bits.specs.Table.{tabulate};
 ghost use Rattle.outside.specs.Outside.{state_from, packed_at, TookOutside};
 
+use bits::Refusal;
 use superframe::State;
 use tape::Blocks;
 
@@ -33,15 +34,15 @@ fn state_from(beside: &[u8]) -> State
 
 // Byte k of the 88.
 #[tactic(auto, unfolding(crate::specs::Outside::packed_at))]
-fn packed_at(next: [u8; 32], after: [u8; 32], blocks: Blocks, k: usize) -> u8
+fn packed_at(state: &State, blocks: &Blocks, k: usize) -> u8
     requires { k < 88 }
-    ensures { result ≡ packed_at next after blocks k }
+    ensures { result ≡ packed_at state.now.next state.now.after blocks.now k }
 {
     if k < 32 {
-        return next[k];
+        return state.next[k];
     }
     if k < 64 {
-        return after[k - 32];
+        return state.after[k - 32];
     }
     if k < 72 {
         return blocks.clean[k - 64];
@@ -53,11 +54,18 @@ fn packed_at(next: [u8; 32], after: [u8; 32], blocks: Blocks, k: usize) -> u8
 }
 
 // The 88 bytes behind a superframe.
-fn packed(next: [u8; 32], after: [u8; 32], blocks: Blocks) -> [u8; 88]
-    ensures { result ≡ tabulate 88 (packed_at next after blocks) }
+fn packed(state: &State, blocks: &Blocks) -> [u8; 88]
+    ensures { result ≡ tabulate 88 (packed_at state.now.next state.now.after blocks.now) }
 {
-    std::array::from_fn(|k| packed_at(next, after, blocks, k))
+    std::array::from_fn(|k| packed_at(state, blocks, k))
 }
+
+// Of a superframe that is lost.
+const NO_BLOCKS: Blocks = Blocks {
+    clean: [0; 8],
+    mended: [0; 8],
+    bad: [0; 8],
+};
 
 // Number 0 or 3, and the 88 bytes follow; or 1 or 2, and they stay.
 pub fn outside_take(
@@ -72,18 +80,17 @@ pub fn outside_take(
     if beside.len() != 88 {
         return 1;
     }
-    let taken = state_from(beside).take(radius, bytes, samples, marks);
-    let number = taken.number;
-    if number == 1 {
-        return 1;
+    match state_from(beside).take(radius, bytes, samples, marks) {
+        Ok(taken) => {
+            beside.copy_from_slice(&packed(&taken.next, &taken.blocks));
+            0
+        }
+        Err(refused) => match refused.why {
+            Refusal::Sync => {
+                beside.copy_from_slice(&packed(&refused.next, &NO_BLOCKS));
+                3
+            }
+            why => why.number(),
+        },
     }
-    if number == 2 {
-        return 2;
-    }
-    let state = taken.next;
-    let next = state.next;
-    let after = state.after;
-    let blocks = taken.blocks;
-    beside.copy_from_slice(&packed(next, after, blocks));
-    number
 }

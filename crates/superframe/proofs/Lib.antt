@@ -1,4 +1,5 @@
 pub mod Parts
+pub mod Served
 pub mod Took
 pub mod Refusals
 pub mod Serving

@@ -1,7 +1,7 @@
 -- What the reader's methods refuse, in the words and order of document 01 ("Numbers given") and document 02 (P7, P9).
 --     tells-lengths, tells-state, tells-takable
 --                               the code's tests tell whether a length is wrong, whether a number of the state is out of its range, and whether that or the radius is
---     number_is, numbered       the number of an answer
+--     number_is, told, numbered     what is refused, and its number, of the tests and of an answer
 --     state-is                  and the state that comes with a refusal
 --     ranged, chosen, roomy     what the state and the radius are where 0 or 3 is answered
 --     take-refuses, lose-refuses, service-refuses, reset-refuses        THE REFUSALS of the four methods
@@ -13,19 +13,24 @@ use mathlib.Core.Logic.{◌⊎◌, inl, inr, ⊎_elim, ◌≢◌}
 use mathlib.Core.List.{List, [], ◌∷◌}
 use Prim.Native.Nat.{ℕ, zero, suc, ◌<◌}
 use native.Mathlib.Omega.{arith}
-use borrow.Author.Tests.{eqb-true, eqb-false, ne_eqb, ltb-true, ltb-false, leb-true, leb-false}
+use borrow.Author.Tests.{eqb-false, ne_eqb, ltb-true, ltb-false, leb-true, leb-false}
 use lib.Dec.{eqb, ltb, leb}
 use lib.IntN.{ℤ}
 use lib.ListN.{length, get_or}
 use Rattle.bits.specs.Table.{every}
 use Rattle.bits.specs.Bits.{all_below}
 use Rattle.bits.specs.Order.{Refused, Accepted}
-use Rattle.bits.specs.Refused.{number_in}
+use Rattle.std.specs.declared.result.Result.{Result}
+use Rattle.std.specs.declared.result.Result.TheVariants.{Ok, Err}
+use Rattle.bits.specs.Refused.{number_of, number_in}
+use Rattle.bits.specs.declared.refusal.Refusal.{Refusal}
+use Rattle.bits.specs.declared.refusal.Refusal.TheVariants as refusal
 use Rattle.bits.proofs.Tests.{either_way, both_true, both_left, both_right}
 use Rattle.bits.proofs.Every.{every-missed}
 use Rattle.bits.proofs.Order.{Tells, tested, no-fault, past}
 use Rattle.reading.specs.Reading.{is_radius, OtherRadius}
 use Rattle.reading.proofs.Radius.{tells-radius}
+use Rattle.tape.specs.Tape.{synced}
 use Rattle.tape.specs.Faults.{WrongSync}
 use Rattle.tape.proofs.Faults.{tells-sync}
 use Rattle.running.specs.Running.{has_room, no_running}
@@ -33,17 +38,15 @@ use Rattle.running.specs.Document.{Full}
 use Rattle.running.proofs.Refusals.{tells-broken, tells-full}
 use Rattle.sound.specs.Sound.{lengths_fit}
 use Rattle.sound.proofs.Samples.{fits}
-use Rattle.service_sync.specs.Sync.{kind_of, number_of}
-use Rattle.service_sync.specs.declared.Kind.{Kind}
-use Rattle.service_sync.specs.declared.Kind.TheVariants.{First, Second, Neither}
-use Rattle.service.specs.Service.{in_range, accepts, refused_service, served}
-use Rattle.superframe.specs.State.{state_in_range, lost_with, serviced_by, serviced_with, reset_with, after_reset}
-use Rattle.superframe.specs.Take.{takable, take_number, beside_with, refused_with, state_under, take_answer, Took}
+use Rattle.service.specs.Service.{in_range, accepts, served}
+use Rattle.superframe.specs.State.{state_in_range, lost_with, serviced_from, serviced_with, reset_with, after_reset}
+use Rattle.superframe.specs.Take.{takable, taking, take_number, state_under, take_answer, outcome, number_told, next_state, Took}
 use Rattle.superframe.specs.Document.{WrongLength, bytes, places, marked, OutOfRange, next, after, position, stage, totals, NoBits, no-bit, TakeRefuses, LoseRefuses, ServiceRefuses, ResetRefuses, Resets}
 use Rattle.superframe.specs.declared.state.State.{State}
 use Rattle.superframe.specs.declared.taking.Taken.{Taken}
+use Rattle.superframe.specs.declared.taking.NotTaken.{NotTaken}
 use Rattle.superframe.proofs.Parts.{factors-in-range, service-in-range, running-in-range}
-use Rattle.superframe.proofs.Took.{lost-next}
+use Rattle.superframe.proofs.Took.{lost-next, refused-by}
 
 -- ---- lengths
 module _ (sf : List ℕ) (samples : List ℤ) (marks : List ℕ) where
@@ -128,62 +131,74 @@ tells-takable radius s =
     (λ t. rw t (record { there = λ e. inr ((tells-radius radius).there t); away = λ e. absurd (true≢false (sym e)) }))
 
 -- ---- taking a superframe
-pub number_is : (radius n : ℕ) (s : State) (sf : List ℕ) → (take_answer radius n s sf).number ≡ n
-unfolding take_answer beside_with refused_with
-number_is radius n s sf = either_way (eqb n 0) (λ t. rw t (sym (eqb-true n 0 t))) (λ t. rw t)
+-- what is refused is what the answer says
+outcome_is : (radius : ℕ) (o : Result Unit Refusal) (s : State) (sf : List ℕ) → outcome (take_answer radius o s sf) ≡ o
+outcome_is radius (Ok _) s sf = refl
+outcome_is radius (Err why) s sf = refl
 
--- the state under a refusal
-under : (radius n : ℕ) (s : State) (sf : List ℕ) → eqb n 0 ≡ false → (take_answer radius n s sf).next ≡ state_under n s
-unfolding take_answer refused_with
-under radius n s sf e = rw e
-
-module _ (radius : ℕ) (s : State) (sf : List ℕ) (samples : List ℤ) (marks : List ℕ) (r : Taken) (samples' : List ℤ) (marks' : List ℕ) (t : Took radius s sf samples marks r samples' marks') where
+module _ (radius : ℕ) (s : State) (sf : List ℕ) (samples : List ℤ) (marks : List ℕ) where
   abbrev number : ℕ
   number = take_number radius s sf samples marks
 
-  pub numbered : number ≡ r.number
-  numbered = sym (ap (λ (r : Taken). r.number) t.answer ∙ number_is radius number s sf)
+  number_is : number ≡ cond (fit sf samples marks) (cond (takable radius s) (cond (has_room s.totals) (cond (synced sf) 0 3) 9) 2) 1
+  unfolding taking
+  number_is =
+      either_way (fit sf samples marks)
+      (λ t. either_way (takable radius s)
+      (λ u. either_way (has_room s.totals)
+      (λ v. either_way (synced sf) (λ w. rw (t, u, v, w)) (λ w. rw (t, u, v, w)))
+      (λ v. rw (t, u, v)))
+      (λ u. rw (t, u)))
+      (λ t. rw t)
 
   abbrev InOrder : ℕ → Type 0
   InOrder = Refused (WrongLength sf samples marks) 1 (Refused (OutOfRange s ⊎ OtherRadius radius) 2 (Refused (Full s.totals) 9 (Refused (WrongSync sf) 3 Accepted)))
 
   in_order : InOrder number
-  unfolding take_number
   in_order =
-      tested _ _ (tells-lengths sf samples marks) (tested _ _ (tells-takable radius s) (tested _ _ (tells-full s.totals) (tested _ _ (tells-sync sf) refl)))
+      rw number_is
+      (tested _ _ (tells-lengths sf samples marks) (tested _ _ (tells-takable radius s) (tested _ _ (tells-full s.totals) (tested _ _ (tells-sync sf) refl))))
 
-  pub state-is : (n : ℕ) → r.number ≡ n → eqb n 0 ≡ false → r.next ≡ state_under n s
-  state-is n e z =
-      ap (λ (r : Taken). r.next) t.answer ∙ ap (λ (n : ℕ). (take_answer radius n s sf).next) (numbered ∙ e) ∙ under radius n s sf z
+  module _ (r : Result Taken NotTaken) (samples' : List ℤ) (marks' : List ℕ) (t : Took radius s sf samples marks r samples' marks') where
+    pub told : outcome r ≡ taking radius s sf samples marks
+    told = ap outcome t.answer ∙ outcome_is radius (taking radius s sf samples marks) s sf
 
-  ordered : InOrder r.number
-  ordered = subst InOrder numbered in_order
+    pub numbered : number ≡ number_told r
+    numbered = sym (ap number_in told)
 
-  -- 0 and 3 are given to a state in range alone, at a radius that may be chosen, with room in its history
-  module _ (one : r.number ≢ 1) (two : r.number ≢ 2) where
-    pub ranged : state_in_range s ≡ true
-    ranged = either_way (state_in_range s) (λ u. u) (λ u. absurd (no-fault (past ordered one) two (inl ((tells-state s).there u))))
+    pub state-is : (why : Refusal) → number_told r ≡ number_of why → next_state r ≡ state_under why s
+    state-is why e =
+        let o = refused-by (outcome r) why e in
+        ap next_state (t.answer ∙ ap (λ (o : Result Unit Refusal). take_answer radius o s sf) (sym told ∙ o))
 
-    pub chosen : is_radius radius ≡ true
-    chosen = either_way (is_radius radius) (λ u. u) (λ u. absurd (no-fault (past ordered one) two (inr ((tells-radius radius).there u))))
+    ordered : InOrder (number_told r)
+    ordered = subst InOrder numbered in_order
 
-    pub roomy : r.number ≢ 9 → has_room s.totals ≡ true
-    roomy nine =
-        either_way (has_room s.totals) (λ u. u) (λ u. absurd (no-fault (past (past ordered one) two) nine ((tells-full s.totals).there u)))
+    -- 0 and 3 are given to a state in range alone, at a radius that may be chosen, with room in its history
+    module _ (one : number_told r ≢ 1) (two : number_told r ≢ 2) where
+      pub ranged : state_in_range s ≡ true
+      ranged = either_way (state_in_range s) (λ u. u) (λ u. absurd (no-fault (past ordered one) two (inl ((tells-state s).there u))))
 
-  pub take-refuses : TakeRefuses radius s sf samples marks r samples' marks'
-  take-refuses =
-      record {
-        order = ordered;
-        given = ⊎_elim (λ e. state-is 1 e refl) (⊎_elim (λ e. state-is 2 e refl) (λ e. state-is 9 e refl));
-        lost = λ e.
-            let one : r.number ≢ 1 = λ z. omega (arith, e, z) in
-            let two : r.number ≢ 2 = λ z. omega (arith, e, z) in
-            state-is 3 e refl ∙ sym (lost-next s (ranged one two) (roomy one two (λ z. omega (arith, e, z))));
-        untouched = λ h.
-            let z : eqb number 0 ≡ false = ne_eqb number 0 (λ e. h (sym numbered ∙ e)) in
-            (t.sound ∙ rw z, t.marked ∙ rw z);
-      }
+      pub chosen : is_radius radius ≡ true
+      chosen = either_way (is_radius radius) (λ u. u) (λ u. absurd (no-fault (past ordered one) two (inr ((tells-radius radius).there u))))
+
+      pub roomy : number_told r ≢ 9 → has_room s.totals ≡ true
+      roomy nine =
+          either_way (has_room s.totals) (λ u. u) (λ u. absurd (no-fault (past (past ordered one) two) nine ((tells-full s.totals).there u)))
+
+    pub take-refuses : TakeRefuses radius s sf samples marks r samples' marks'
+    take-refuses =
+        record {
+          order = ordered;
+          given = ⊎_elim (λ e. state-is refusal.Length e) (⊎_elim (λ e. state-is refusal.Range e) (λ e. state-is refusal.Full e));
+          lost = λ e.
+              let one : number_told r ≢ 1 = λ z. omega (arith, e, z) in
+              let two : number_told r ≢ 2 = λ z. omega (arith, e, z) in
+              state-is refusal.Sync e ∙ sym (lost-next s (ranged one two) (roomy one two (λ z. omega (arith, e, z))));
+          untouched = λ h.
+              let z : eqb number 0 ≡ false = ne_eqb number 0 (λ e. h (sym numbered ∙ e)) in
+              (t.sound ∙ rw z, t.marked ∙ rw z);
+        }
 
 -- ---- losing one, six service bytes, and a reset
 -- an answer that goes by tests, and its parts
@@ -221,23 +236,14 @@ resets s =
     (λ t. rw t (λ _. record { taken = refl; lost = refl; clean = refl; mended = refl; bad = refl; factors = refl; service = refl }))
     (λ t. rw t (λ e. absurd (omega (arith, e))))
 
-sync-number : (k : Kind) → number_of k ≢ 2
-sync-number First e = omega arith
-sync-number Second e = omega arith
-sync-number Neither e = omega arith
-
 -- the machine's answer to a state in range
-machine : (s : State) (six sync : List ℕ) → state_in_range s ≡ true → ServiceRefuses s sync (serviced_by s (served s.service six sync))
-unfolding served accepts refused_service
+machine : (s : State) (six sync : List ℕ) → state_in_range s ≡ true → ServiceRefuses s sync (serviced_from s (served s.service six sync))
+unfolding served accepts
 machine s six sync h =
     either_way (all_below 2 sync)
     (λ t.
     rw (service-in-range s h, t)
-    (record {
-      two = ⊎_elim (λ o. absurd (within s h o)) (λ n. absurd (bits-all t n));
-      only = λ e. absurd (sync-number (kind_of sync) e);
-      given = λ e. absurd (sync-number (kind_of sync) e);
-    }))
+    (record { two = ⊎_elim (λ o. absurd (within s h o)) (λ n. absurd (bits-all t n)); only = λ e. absurd (omega (arith, e)); given = λ e. absurd (omega (arith, e)) }))
     (λ t.
     rw (service-in-range s h, t)
     (record { two = λ f. refl; only = λ e. inr (let m = some-above 1 sync t in no-bit m.place m.above); given = λ e. refl }))
@@ -246,7 +252,7 @@ machine s six sync h =
     bits-all t (no-bit j l) = none_above 1 sync j t l
 
 pub service-refuses : (s : State) (six sync : List ℕ) → ServiceRefuses s sync (serviced_with s six sync)
-unfolding serviced_with refused_service
+unfolding serviced_with
 service-refuses s six sync =
     either_way (state_in_range s)
     (λ t. rw t (machine s six sync t))

@@ -8,6 +8,7 @@ use Rattle.bits.proofs.Unique.{same}
 use lib.IntN.{ℤ}
 use Rattle.superframe.specs.Take.{Took}
 use Rattle.superframe.specs.declared.taking.Taken.{Taken}
+use Rattle.superframe.specs.declared.taking.NotTaken.{NotTaken}
 use Rattle.superframe.specs.State.{fresh_state, lost_with, serviced_with, reset_with}
 use Rattle.superframe.specs.declared.state.State.{State}
 use Rattle.superframe.specs.declared.state.Serviced.{Serviced}
@@ -19,12 +20,12 @@ module _ (s : State) where
   pub lose-unique : (r r' : Result State Refusal) → r ≡ lost_with s → r' ≡ lost_with s → r ≡ r'
   lose-unique r r' = same
 
-  pub take-service-unique : (r r' : Serviced) (six sync : List ℕ) → r ≡ serviced_with s six sync → r' ≡ serviced_with s six sync → r ≡ r'
+  pub take-service-unique : (r r' : Result Serviced Refusal) (six sync : List ℕ) → r ≡ serviced_with s six sync → r' ≡ serviced_with s six sync → r ≡ r'
   take-service-unique r r' six sync = same
 
   pub reset-unique : (r r' : Result State Refusal) → r ≡ reset_with s → r' ≡ reset_with s → r ≡ r'
   reset-unique r r' = same
 
-module _ (radius : ℕ) (s : State) (sf : List ℕ) (samples : List ℤ) (marks : List ℕ) (r r' : Taken) (x x' : List ℤ) (m m' : List ℕ) where
+module _ (radius : ℕ) (s : State) (sf : List ℕ) (samples : List ℤ) (marks : List ℕ) (r r' : Result Taken NotTaken) (x x' : List ℤ) (m m' : List ℕ) where
   pub take-unique : Took radius s sf samples marks r x m → Took radius s sf samples marks r' x' m' → (r ≡ r') × (x ≡ x') × (m ≡ m')
   take-unique a b = (same a.answer b.answer, same a.sound b.sound, same a.marked b.marked)

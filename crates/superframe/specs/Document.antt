@@ -8,9 +8,9 @@
 --                                       "state as given" under 2, "the state after one lost superframe" under 3; "a refusal writes into no lent buffer"
 --     LoseRefuses s r, ServiceRefuses s sync r, ResetRefuses s r      the same of losing one, of six service bytes, and of a reset
 --     Resets s t                        "a call that resets starts a new history at that point": nothing is counted, and all else is as given
---     Serves s sf r                     taking a superframe does with its six bytes and its sync what `take_service` does with them
+--     ServedAs r t, Serves s sf t       taking a superframe does with its six bytes and its sync what `take_service` does with them
 use Rattle.std.specs.Prelude.{ℕ, ◌<◌, ◌≡◌, ◌⊎◌, ◌≢◌, List, ℤ, length, get_or, Result}
-use Rattle.std.specs.Result.{result_unwrap_or}
+use Rattle.std.specs.Result.{result_unwrap_or, IsOkAnd}
 use Rattle.bits.specs.Order.{Refused, Accepted}
 use Rattle.bits.specs.Refused.{number_in}
 use Rattle.bits.specs.declared.refusal.Refusal.{Refusal}
@@ -19,10 +19,12 @@ use Rattle.reading.specs.Reading.{OtherRadius}
 use Rattle.tape.specs.Faults.{WrongSync}
 use Rattle.running.specs.Document.{Broken, Full}
 use Rattle.beside.specs.Beside.{six_and_sync}
-use Rattle.superframe.specs.State.{factors_of, serviced_with, after_loss}
+use Rattle.superframe.specs.State.{factors_of, serviced_with, next_served, after_loss}
+use Rattle.superframe.specs.Take.{number_told, next_state}
 use Rattle.superframe.specs.declared.state.State.{State}
 use Rattle.superframe.specs.declared.state.Serviced.{Serviced}
 use Rattle.superframe.specs.declared.taking.Taken.{Taken}
+use Rattle.superframe.specs.declared.taking.NotTaken.{NotTaken}
 
 pub data WrongLength (sf : List ℕ) (samples : List ℤ) (marks : List ℕ) : Type 0 where
   bytes : length sf ≢ 5120 → WrongLength sf samples marks
@@ -39,20 +41,20 @@ pub data OutOfRange (s : State) : Type 0 where
 pub data NoBits (sync : List ℕ) : Type 0 where
   no-bit : (j : ℕ) → 1 < get_or sync j 0 → NoBits sync
 
-pub record TakeRefuses (radius : ℕ) (s : State) (sf : List ℕ) (samples : List ℤ) (marks : List ℕ) (r : Taken) (samples' : List ℤ) (marks' : List ℕ) : Type 0 where
-  pub order : Refused (WrongLength sf samples marks) 1 (Refused (OutOfRange s ⊎ OtherRadius radius) 2 (Refused (Full s.totals) 9 (Refused (WrongSync sf) 3 Accepted))) r.number
-  pub given : (r.number ≡ 1) ⊎ ((r.number ≡ 2) ⊎ (r.number ≡ 9)) → r.next ≡ s
-  pub lost : r.number ≡ 3 → r.next ≡ after_loss s
-  pub untouched : r.number ≢ 0 → (samples' ≡ samples) × (marks' ≡ marks)
+pub record TakeRefuses (radius : ℕ) (s : State) (sf : List ℕ) (samples : List ℤ) (marks : List ℕ) (r : Result Taken NotTaken) (samples' : List ℤ) (marks' : List ℕ) : Type 0 where
+  pub order : Refused (WrongLength sf samples marks) 1 (Refused (OutOfRange s ⊎ OtherRadius radius) 2 (Refused (Full s.totals) 9 (Refused (WrongSync sf) 3 Accepted))) (number_told r)
+  pub given : (number_told r ≡ 1) ⊎ ((number_told r ≡ 2) ⊎ (number_told r ≡ 9)) → next_state r ≡ s
+  pub lost : number_told r ≡ 3 → next_state r ≡ after_loss s
+  pub untouched : number_told r ≢ 0 → (samples' ≡ samples) × (marks' ≡ marks)
 
 pub record LoseRefuses (s : State) (r : Result State Refusal) : Type 0 where
   pub order : Refused (OutOfRange s) 2 (Refused (Full s.totals) 9 Accepted) (number_in r)
   pub given : number_in r ≢ 0 → result_unwrap_or r s ≡ s
 
-pub record ServiceRefuses (s : State) (sync : List ℕ) (r : Serviced) : Type 0 where
-  pub two : OutOfRange s ⊎ NoBits sync → r.number ≡ 2
-  pub only : r.number ≡ 2 → OutOfRange s ⊎ NoBits sync
-  pub given : r.number ≡ 2 → r.next ≡ s
+pub record ServiceRefuses (s : State) (sync : List ℕ) (r : Result Serviced Refusal) : Type 0 where
+  pub two : OutOfRange s ⊎ NoBits sync → number_in r ≡ 2
+  pub only : number_in r ≡ 2 → OutOfRange s ⊎ NoBits sync
+  pub given : number_in r ≡ 2 → next_served s r ≡ s
 
 pub record ResetRefuses (s : State) (r : Result State Refusal) : Type 0 where
   pub order : Refused (OutOfRange s) 2 Accepted (number_in r)
@@ -68,10 +70,13 @@ pub record Resets (s t : State) : Type 0 where
   pub factors : factors_of t ≡ factors_of s
   pub service : t.service ≡ s.service
 
-pub record Serves (s : State) (sf : List ℕ) (r : Taken) : Type 0 where
-  pub six : r.six ≡ (six_and_sync sf).six
-  pub number : r.service ≡ (serviced_with s (six_and_sync sf).six (six_and_sync sf).sync).number
-  pub position : r.position ≡ (serviced_with s (six_and_sync sf).six (six_and_sync sf).sync).position
-  pub complete : r.complete ≡ (serviced_with s (six_and_sync sf).six (six_and_sync sf).sync).complete
-  pub labels : r.labels ≡ (serviced_with s (six_and_sync sf).six (six_and_sync sf).sync).labels
-  pub next : r.next.service ≡ (serviced_with s (six_and_sync sf).six (six_and_sync sf).sync).next.service
+pub record ServedAs (r : Serviced) (t : Taken) : Type 0 where
+  pub position : t.position ≡ r.position
+  pub kind : t.kind ≡ r.kind
+  pub labels : t.labels ≡ r.labels
+  pub next : t.next.service ≡ r.next.service
+
+-- t is what is handed out with a superframe that is taken
+pub record Serves (s : State) (sf : List ℕ) (t : Taken) : Type 0 where
+  pub six : t.six ≡ (six_and_sync sf).six
+  pub served : IsOkAnd (serviced_with s (six_and_sync sf).six (six_and_sync sf).sync) (λ r. ServedAs r t)

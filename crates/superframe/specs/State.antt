@@ -9,7 +9,9 @@
 --                               totals         as running totals are
 --     lost_factors, lost_state      after a lost superframe: the factors move on by one, "missing" behind; the service searches; it is counted as lost
 --     lost_with s            the answer to a loss: number 2 where the state is out of range, 9 where its history is full
---     serviced_with s six sync     the answer to six service bytes and a sync; the factors and the totals are as given
+--     serviced_with s six sync     the answer to six service bytes and a sync; the factors and the totals are as given. Number 2 where the state is out of range
+--                            or an entry of the sync is no bit
+--     after_service s six sync     the state behind it: where it is refused, the one given
 --     reset_state s          after a reset: a new history, and all else as given
 --     reset_with s           the answer to it; number 2 where the state is out of range
 --     after_loss, after_reset s     the state that a caller goes on with behind a loss, and behind a reset: where that is refused, the one given
@@ -18,7 +20,7 @@ use Rattle.std.specs.Result.{result_unwrap_or}
 use Rattle.bits.specs.Bits.{all_below}
 use Rattle.bits.specs.declared.refusal.Refusal.{Refusal}
 use Rattle.bits.specs.declared.refusal.Refusal.TheVariants.{Range, Full}
-use Rattle.service.specs.Service.{searching_service, in_range, refused_service, served}
+use Rattle.service.specs.Service.{searching_service, in_range, served}
 use Rattle.service.specs.declared.Service.{Service}
 use Rattle.service.specs.declared.Served.{Served}
 use Rattle.running.specs.Running.{running_in_range, has_room, no_running, with_lost}
@@ -59,18 +61,21 @@ lost_with s = cond (state_in_range s) (cond (has_room s.totals) (Ok (lost_state 
 
 -- what the service answers, with the state's other parts as given
 abbrev pub serviced_by : State → Served → Serviced
-serviced_by s r =
-    record {
-      number = r.number;
-      position = r.position;
-      complete = r.complete;
-      labels = r.labels;
-      next = joined_state (factors_of s) r.next s.totals;
-    }
+serviced_by s r = record { position = r.position; kind = r.kind; labels = r.labels; next = joined_state (factors_of s) r.next s.totals }
 
-unfoldable pub serviced_with : State → List ℕ → List ℕ → Serviced
-serviced_with s six sync =
-    serviced_by s (cond (state_in_range s) (served s.service six sync) (refused_service s.service))
+abbrev pub serviced_from : State → Result Served Refusal → Result Serviced Refusal
+serviced_from s (Ok r) = Ok (serviced_by s r)
+serviced_from s (Err why) = Err why
+
+unfoldable pub serviced_with : State → List ℕ → List ℕ → Result Serviced Refusal
+serviced_with s six sync = cond (state_in_range s) (serviced_from s (served s.service six sync)) (Err Range)
+
+abbrev pub next_served : State → Result Serviced Refusal → State
+next_served s (Ok r) = r.next
+next_served s (Err why) = s
+
+abbrev pub after_service : State → List ℕ → List ℕ → State
+after_service s six sync = next_served s (serviced_with s six sync)
 
 abbrev pub reset_state : State → State
 reset_state s = joined_state (factors_of s) s.service no_running

@@ -5,4 +5,4 @@ mod state;
 mod taking;
 
 pub use state::{Serviced, State};
-pub use taking::Taken;
+pub use taking::{NotTaken, Taken};

@@ -6,6 +6,7 @@ ghost use Rattle.superframe.specs.State.{fresh_state, factors_in_range, state_in
 use bits::Refusal;
 use running::Running;
 use service::Service;
+use service_sync::Kind;
 
 #[derive(Clone, Copy)]
 pub struct State {
@@ -21,14 +22,12 @@ pub struct State {
 // The answer to six service bytes and the sync behind them.
 #[derive(Clone, Copy)]
 pub struct Serviced {
-    // 0; 2: refused; 7: the sync is neither of the two
-    pub number: u8,
     // of the six bytes; 0: they belong to no open group
     pub position: u8,
-    // whether the labels are handed out
-    pub complete: bool,
-    // 32 labels of eight characters where they are handed out, else 0
-    pub labels: [u8; 256],
+    // which sync is behind them: neither of the two is number 7
+    pub kind: Kind,
+    // 32 labels of eight characters, where they are handed out
+    pub labels: Option<[u8; 256]>,
     pub next: State,
 }
 
@@ -74,42 +73,31 @@ impl State {
         if !self.in_range() {
             return Err(Refusal::Range);
         }
-        if !self.totals.has_room() {
-            return Err(Refusal::Full);
-        }
-        let counted = self.totals.lose();
+        let totals = self.totals.lose()?;
         let moved = self.after;
         Ok(State {
             next: moved,
-            totals: counted.next,
+            totals,
             ..State::fresh()
         })
     }
 
-    // Six service bytes, then the 16 bits of the sync behind them.
-    #[tactic(auto, unfolding(crate::specs::State::serviced_with, service::specs::Service::refused_service))]
-    pub fn take_service(self, six: [u8; 6], sync: [u8; 16]) -> Serviced
+    // Six service bytes, then the 16 bits of the sync behind them. Refused for a state out of range, or an entry of the sync that is no bit.
+    #[tactic(auto, unfolding(crate::specs::State::serviced_with))]
+    pub fn take_service(self, six: [u8; 6], sync: [u8; 16]) -> Result<Serviced, Refusal>
         ensures { result ≡ serviced_with self six sync }
     {
         if !self.in_range() {
-            return Serviced {
-                number: 2,
-                position: 0,
-                complete: false,
-                labels: [0u8; 256],
-                next: self,
-            };
+            return Err(Refusal::Range);
         }
-        let served = service::serve(self.service, six, sync);
-        let labels = served.labels;
+        let served = service::serve(self.service, six, sync)?;
         let service = served.next;
-        Serviced {
-            number: served.number,
+        Ok(Serviced {
             position: served.position,
-            complete: served.complete,
-            labels,
+            kind: served.kind,
+            labels: served.labels,
             next: State { service, ..self },
-        }
+        })
     }
 
     // A new history begins at this point; everything else of the state stays. Refused for a state out of range alone.

@@ -1,17 +1,18 @@
 // A superframe is taken at a radius (document 02, P9): its samples and marks go into two lent slices, and the state comes back with the answer.
-ghost use Rattle.std.specs.Prelude.{◌≡◌, length};
-ghost use Rattle.running.specs.Running.{step_number};
-ghost use Rattle.superframe.specs.Take.{takable, beside_with, refused_with, Took};
+ghost use Rattle.std.specs.Prelude.{◌≡◌, true, length, Err};
+ghost use Rattle.running.specs.Running.{has_room};
+ghost use Rattle.superframe.specs.State.{state_in_range};
+ghost use Rattle.superframe.specs.Take.{takable, beside_with, Took};
 
 use super::state::State;
 use beside::Programmes;
-use tape::Blocks;
+use bits::Refusal;
+use service_sync::Kind;
+use tape::{Blocks, Counted};
 
-// The answer to a superframe. Refused, all but the number and the state is 0.
+// What is handed out with a superframe that is taken, beside its samples and marks.
 #[derive(Clone, Copy)]
 pub struct Taken {
-    // 0; 1: a wrong length; 2: a state out of range, or another radius than 2 or 3; 9: a full history; 3: a wrong sync
-    pub number: u8,
     pub next: State,
     // how many bits of its 128 syncs are wrong
     pub wrong: u16,
@@ -21,105 +22,95 @@ pub struct Taken {
     pub six: [u8; 6],
     // of the six bytes; 0: they belong to no open group
     pub position: u8,
-    // 0; 7: the service sync is neither of the two
-    pub service: u8,
-    // whether the labels are handed out
-    pub complete: bool,
-    // 32 labels of eight characters where they are handed out, else 0
-    pub labels: [u8; 256],
+    // which service sync is behind them: neither of the two is number 7
+    pub kind: Kind,
+    // 32 labels of eight characters, where they are handed out
+    pub labels: Option<[u8; 256]>,
 }
 
-fn refused(number: u8, next: State) -> Taken
-    ensures { result ≡ refused_with number next }
-{
-    let counted = tape::refused(number);
-    let blocks = counted.blocks;
-    let programmes = Programmes {
-        numbers: [0u8; 16],
-        factors: [0u8; 32],
-        places: [0u8; 16],
-        words: [0u32; 16],
-    };
-    Taken {
-        number,
-        next,
-        wrong: 0,
-        blocks,
-        programmes,
-        six: [0u8; 6],
-        position: 0,
-        service: 0,
-        complete: false,
-        labels: [0u8; 256],
-    }
+// A superframe that is not taken.
+#[derive(Clone, Copy)]
+pub struct NotTaken {
+    // Length; Range: a state out of range, or another radius than 2 or 3; Full: a full history; Sync
+    pub why: Refusal,
+    // under Sync the state after a loss, else the one given
+    pub next: State,
 }
 
 // Whether a superframe can be taken so: at a radius of 2 or 3, with a state in range.
+#[tactic(auto, unfolding(crate::specs::Take::takable))]
 fn can_take(radius: u8, state: State) -> bool
     ensures { result ≡ takable radius state }
 {
-    if reading::is_radius(radius) {
-        return state.in_range();
-    }
-    false
+    reading::is_radius(radius) && state.in_range()
 }
 
 // All that is answered beside the samples and marks, with wrong sync bits and readings already counted.
-fn answered(state: State, bytes: &[u8], wrong: u16, blocks: Blocks) -> Taken
+fn answered(state: State, bytes: &[u8], counted: Counted) -> Taken
     requires bytes_len { length bytes.now ≡ 5120 }
-    requires totals_value { step_number state.totals ≡ 0 }
-    ensures { result ≡ beside_with state bytes.now wrong blocks }
+    requires state_value { state_in_range state ≡ true }
+    requires totals_value { has_room state.totals ≡ true }
+    ensures { result ≡ beside_with state bytes.now counted.wrong counted.blocks }
 {
-    let programmes = beside::programmes_of(bytes);
-    let sent = beside::six_and_sync(bytes);
-    let six = sent.six;
-    let sync = sent.sync;
-    let served = service::serve(state.service, six, sync);
-    let labels = served.labels;
-    let counted = state.totals.take(blocks);
+    let programmes = beside::programmes_of(bytes).unwrap();
+    let sent = beside::six_and_sync(bytes).unwrap();
+    let served = service::serve(state.service, sent.six, sent.sync).unwrap();
+    let totals = state.totals.take(counted.blocks).unwrap();
     let moved = state.after;
     let read = programmes.factors;
+    let six = sent.six;
     let next = State {
         next: moved,
         after: read,
         service: served.next,
-        totals: counted.next,
+        totals,
     };
     Taken {
-        number: 0,
         next,
-        wrong,
-        blocks,
+        wrong: counted.wrong,
+        blocks: counted.blocks,
         programmes,
         six,
         position: served.position,
-        service: served.number,
-        complete: served.complete,
-        labels,
+        kind: served.kind,
+        labels: served.labels,
     }
 }
 
 impl State {
+    // The state given stays.
+    fn refused(self, why: Refusal) -> Result<Taken, NotTaken>
+        ensures { result ≡ Err (record { why = why; next = self }) }
+    {
+        Err(NotTaken { why, next: self })
+    }
+
     // Refused, nothing is written.
-    pub fn take(self, radius: u8, bytes: &[u8], samples: &mut [i16], marks: &mut [u8]) -> Taken
+    pub fn take(
+        self,
+        radius: u8,
+        bytes: &[u8],
+        samples: &mut [i16],
+        marks: &mut [u8],
+    ) -> Result<Taken, NotTaken>
         ensures { Took radius self bytes.now samples.old marks.old result samples.new marks.new }
     {
         if !sound::lengths_fit(bytes.len(), samples.len(), marks.len()) {
-            return refused(1, self);
+            return self.refused(Refusal::Length);
         }
         if !can_take(radius, self) {
-            return refused(2, self);
+            return self.refused(Refusal::Range);
         }
-        let totals = self.totals;
-        if !totals.has_room() {
-            return refused(9, self);
+        if !self.totals.has_room() {
+            return self.refused(Refusal::Full);
         }
         let factors = self.next;
-        let counted = sound::fill(radius, bytes, &factors, samples, marks);
-        if counted.number != 0 {
-            return refused(3, self.lose().unwrap_or(self));
+        match sound::fill(radius, bytes, &factors, samples, marks) {
+            Ok(counted) => Ok(answered(self, bytes, counted)),
+            Err(why) => Err(NotTaken {
+                why,
+                next: self.lose().unwrap_or(self),
+            }),
         }
-        let blocks = counted.blocks;
-        answered(self, bytes, counted.wrong, blocks)
     }
 }

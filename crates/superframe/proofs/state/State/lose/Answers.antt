@@ -1,16 +1,20 @@
 -- `superframe::state::State::lose` meets its contract. Assumes nothing.
-use mathlib.Core.Path.{◌≡◌, sym, ◌∙◌}
-use mathlib.Core.Bool.{true}
-use Rattle.running.specs.Running.{has_room, with_lost, lost_step}
-use Rattle.running.proofs.More.{stepped-free}
-use Rattle.superframe.specs.State.{missing, state_in_range, lost_with}
-use Rattle.superframe.proofs.Parts.{running-in-range}
+use mathlib.Core.Path.{sym, ap, ◌∙◌}
+use Rattle.std.proofs.lemmas.Result.{err_from_is_err_and}
+use Rattle.superframe.specs.State.{missing}
+use Rattle.superframe.proofs.Parts.{lost-by, lost-is}
 use Rattle.superframe.proofs.state.State.lose.Goals as goal
 
-pub returns : goal.returns
-unfolding lost_with lost_step missing
-returns c =
-    let ranged : state_in_range c.args.self ≡ true = sym c.in_range.ensures ∙ c.if-not-in_range.false in
+pub returns-in_err-totals : goal.returns-in_err-totals
+returns-in_err-totals c =
+    let ranged = sym c.in_range.ensures ∙ c.if-not-in_range.false in
     let self = c.args.self in
-    let free : has_room self.totals ≡ true = sym c.has_room.ensures ∙ c.if-not-has_room.false in
-    rw (c.fresh.ensures, c.lose-counted.ensures, ranged, free, stepped-free self.totals (with_lost self.totals) (running-in-range self ranged) free)
+    let handed = err_from_is_err_and c.from_residual.result c.from_residual.ensures.1 in
+    rw (handed.1, handed.2) (sym (lost-is self ranged ∙ ap (lost-by self) (sym c.lose.ensures ∙ c.in_err-totals.was)))
+
+pub returns : goal.returns
+unfolding missing
+returns c =
+    let ranged = sym c.in_range.ensures ∙ c.if-not-in_range.false in
+    let self = c.args.self in
+    rw c.fresh.ensures (sym (lost-is self ranged ∙ ap (lost-by self) (sym c.lose.ensures ∙ c.in_ok-totals.was)))
