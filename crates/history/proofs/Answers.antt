@@ -13,17 +13,15 @@ use mathlib.Core.Bool.{true, ◌&&◌}
 use mathlib.Core.List.{List}
 use Prim.Native.Nat.{ℕ, ◌<◌, ◌≤◌}
 use native.Mathlib.Omega.{arith}
-use borrow.Author.Tests.{ne_eqb}
 use lib.Dec.{eqb}
 use lib.IntN.{ℤ}
 use lib.ListN.{length, get_or, get_or-replicate}
 use Rattle.std.specs.declared.result.Result.{Result}
 use Rattle.std.specs.declared.result.Result.TheVariants.{Ok, Err}
-use Rattle.bits.specs.Refused as refusals
 use Rattle.bits.specs.Refused.{number_in}
 use Rattle.bits.specs.declared.refusal.Refusal.{Refusal}
 use Rattle.bits.specs.declared.refusal.Refusal.TheVariants.{Sync}
-use Rattle.bits.proofs.Refused.{not_zero, unrefused}
+use Rattle.bits.proofs.Refused.{unrefused}
 use Rattle.bits.proofs.Table.{get_or-tab}
 use Rattle.bits.proofs.Tests.{either_way, both_true}
 use Rattle.service_sync.specs.Sync.{number_of}
@@ -31,10 +29,11 @@ use Rattle.service_sync.specs.declared.Kind.{Kind}
 use Rattle.service_sync.specs.declared.Kind.TheVariants.{First, Second, Neither}
 use Rattle.reading.specs.Reading.{ordinary, largest_radius}
 use Rattle.reading.proofs.Radius.{chosen-small}
-use Rattle.tape.specs.Tape.{synced, wrong_bits, blocks_of, refused_counts, counted_with, sync_number, counts_of}
+use Rattle.tape.specs.Tape.{synced, wrong_bits, blocks_of, wrong_told, blocks_told, sync_number, syncs_of, counts_of}
+use Rattle.tape.proofs.Tape.{syncs-number, syncs-known}
 use Rattle.running.specs.Running.{has_room}
 use Rattle.sound.specs.Sound.{lengths_fit}
-use Rattle.beside.specs.Beside.{number_at, programmes_of}
+use Rattle.beside.specs.Beside.{extra_of, number_at, programmes_of}
 use Rattle.superframe.specs.State.{state_in_range}
 use Rattle.superframe.specs.Take.{takable, taking, take_number, beside_with, no_programmes, refused_with, take_answer, outcome, number_told, handed}
 use Rattle.superframe.proofs.Refusals as of
@@ -54,7 +53,7 @@ kind-number Neither = inr refl
 answer-programme : (radius : ℕ) (o : Result Unit Refusal) (s : State) (sf : List ℕ) (q : ℕ) → q < 16
     → (get_or (handed (take_answer radius o s sf)).programmes.numbers q 0 ≡ 0) ⊎ (get_or (handed (take_answer radius o s sf)).programmes.numbers q 0 ≡ 5)
 unfolding beside_with programmes_of no_programmes
-answer-programme radius (Ok _) s sf q l = rw (get_or-tab 16 (number_at sf) q 0 l) (number_small sf q)
+answer-programme radius (Ok _) s sf q l = rw (get_or-tab 16 (number_at sf) q 0 l) (number_small (extra_of sf q).factors)
 answer-programme radius (Err why) s sf q l = rw (get_or-replicate {A = ℕ} 16 q 0 0 l) (inl refl)
 
 -- ---- counting
@@ -63,26 +62,18 @@ unfolding lengths_fit
 superframe-fits n m k t = (both_true (eqb n 5120) (eqb m 2048 && eqb k 2048) t).0
 
 sync-number : (radius : ℕ) (s : State) (sf : List ℕ) (samples : List ℤ) (marks : List ℕ) →
-    (take_number radius s sf samples marks ≡ 0) ⊎ (take_number radius s sf samples marks ≡ 3) → counts_of sf ≡ counted_with ordinary (take_number radius s sf samples marks) sf
-unfolding taking counts_of sync_number
+    (take_number radius s sf samples marks ≡ 0) ⊎ (take_number radius s sf samples marks ≡ 3) → sync_number sf ≡ take_number radius s sf samples marks
+unfolding taking sync_number
 sync-number radius s sf samples marks e =
     either_way (lengths_fit (length sf) (length samples) (length marks))
     (λ t. either_way (takable radius s)
     (λ u. either_way (has_room s.totals)
     (λ v. either_way (synced sf)
-      (λ w. rw (superframe-fits (length sf) (length samples) (length marks) t, t, u, v, w))
-      (λ w. rw (superframe-fits (length sf) (length samples) (length marks) t, t, u, v, w)))
+    (λ w. rw (superframe-fits (length sf) (length samples) (length marks) t, t, u, v, w))
+    (λ w. rw (superframe-fits (length sf) (length samples) (length marks) t, t, u, v, w)))
     (λ v. let z : take_number radius s sf samples marks ≡ 9 = rw (t, u, v) in absurd (⊎_elim (λ e. omega arith) (λ e. omega arith) e)))
     (λ u. let z : take_number radius s sf samples marks ≡ 2 = rw (t, u) in absurd (⊎_elim (λ e. omega arith) (λ e. omega arith) e)))
     (λ t. let z : take_number radius s sf samples marks ≡ 1 = rw t in absurd (⊎_elim (λ e. omega arith) (λ e. omega arith) e))
-
-same-counts : (radius : ℕ) (o : Result Unit Refusal) (s : State) (sf : List ℕ) →
-    (number_told (take_answer radius o s sf) ≡ (counted_with ordinary (number_in o) sf).number)
-    × ((handed (take_answer radius o s sf)).wrong ≡ (counted_with ordinary (number_in o) sf).wrong)
-    × (radius ≡ ordinary → (handed (take_answer radius o s sf)).blocks ≡ (counted_with ordinary (number_in o) sf).blocks)
-unfolding beside_with counted_with refused_counts
-same-counts radius (Ok _) s sf = (refl, refl, λ e. ap (λ (r : ℕ). blocks_of r sf) e)
-same-counts radius (Err why) s sf = let some = ne_eqb (refusals.number_of why) 0 (not_zero why) in rw some (refl, refl, λ e. refl)
 
 -- ---- a call
 module _ (s : State) (k : Call s) where
@@ -126,11 +117,33 @@ module _ (s : State) (k : Call s) where
   pub programme-number : (q : ℕ) → q < 16 → (get_or (handed k.answer).programmes.numbers q 0 ≡ 0) ⊎ (get_or (handed k.answer).programmes.numbers q 0 ≡ 5)
   programme-number q l = rw k.took.answer (answer-programme k.radius refused s k.bytes q l)
 
+  same-number : Accepted k ⊎ LostIn k → number_in (syncs_of k.bytes) ≡ number_told k.answer
+  same-number e =
+      syncs-number k.bytes
+      ∙ sync-number k.radius s k.bytes k.lent-samples k.lent-marks (⊎_elim (λ z. inl (numbered ∙ z)) (λ z. inr (numbered ∙ z)) e)
+      ∙ numbered
+
+  abbrev CountedSame : Type 0
+  CountedSame =
+      (number_told k.answer ≡ number_in (counts_of k.bytes))
+      × ((handed k.answer).wrong ≡ wrong_told (counts_of k.bytes))
+      × (k.radius ≡ ordinary → (handed k.answer).blocks ≡ blocks_told (counts_of k.bytes))
+
+  taken-same : Accepted k → CountedSame
+  unfolding beside_with counts_of
+  taken-same z =
+      let w = unrefused (syncs_of k.bytes) (same-number (inl z) ∙ z) in
+      rw (accepted-is z, w.1) (refl, sym (syncs-known k.bytes w.0 w.1).1, λ e. ap (λ (r : ℕ). blocks_of r k.bytes) e)
+
+  lost-same : LostIn k → CountedSame
+  unfolding counts_of
+  lost-same z =
+      let w = refused-by (syncs_of k.bytes) Sync (same-number (inr z) ∙ z) in
+      rw (lost-is z, w) (refl, refl, λ e. refl)
+
   pub counted_same :
       Accepted k ⊎ LostIn k →
-      (number_told k.answer ≡ (counts_of k.bytes).number)
-      × ((handed k.answer).wrong ≡ (counts_of k.bytes).wrong)
-      × (k.radius ≡ ordinary → (handed k.answer).blocks ≡ (counts_of k.bytes).blocks)
-  counted_same e =
-      let c = sync-number k.radius s k.bytes k.lent-samples k.lent-marks (⊎_elim (λ z. inl (numbered ∙ z)) (λ z. inr (numbered ∙ z)) e) in
-      rw (k.took.answer, c) (same-counts k.radius refused s k.bytes)
+      (number_told k.answer ≡ number_in (counts_of k.bytes))
+      × ((handed k.answer).wrong ≡ wrong_told (counts_of k.bytes))
+      × (k.radius ≡ ordinary → (handed k.answer).blocks ≡ blocks_told (counts_of k.bytes))
+  counted_same = ⊎_elim taken-same lost-same

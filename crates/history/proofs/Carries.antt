@@ -1,6 +1,6 @@
 -- What any superframe can carry beside its sound, whatever its bytes.
 --     scale_small           a scale word reads as two factors from 0 to 7, or as number 5
---     number_small          so a programme's number is 0 or 5
+--     number_small          a programme's number is 0 or 5
 --     factor-small          and the factor of a channel 0 to 8
 -- Assumes nothing.
 use mathlib.Core.Path.{◌≡◌, refl}
@@ -10,14 +10,16 @@ use Prim.Native.Nat.{ℕ, ◌/◌, ◌%◌, ◌<◌, ◌≤◌}
 use native.Mathlib.Omega.{arith}
 use lib.Dec.{eqb}
 use lib.ListN.{get_or, take}
+use Rattle.std.specs.declared.option.Option.{Option}
+use Rattle.std.specs.declared.option.Option.TheVariants.{Some, None}
 use Rattle.bits.specs.Answer.{Answer}
 use Rattle.bits.proofs.Tests.{either_way}
 use Rattle.nearest.specs.Reading.{read_scale}
 use Rattle.nearest.proofs.Fewest.{single-read, shared-read}
 use Rattle.nearest.proofs.Search.{single-or-shared}
-use Rattle.nearest.proofs.ExtraBits.{extra-reading}
-use Rattle.beside.proofs.Scales.{extra-bits-below}
-use Rattle.beside.specs.Beside.{extra_bits, extra_of, factor_or, side_of, factor_read}
+use Rattle.nearest.specs.Extra.{factors_in}
+use Rattle.nearest.specs.declared.Factors.{Factors}
+use Rattle.beside.specs.Beside.{extra_bits, extra_of, number_of_factors, factor_or, factor_read}
 
 pub record Small (a : Answer ℕ) : Type 0 where
   pub number : (a.number ≡ 0) ⊎ (a.number ≡ 5)
@@ -31,22 +33,19 @@ scale_small bits =
     (λ t. rw (shared-read bits t) (record { number = inr refl; left = omega arith; right = omega arith }))
     (single-or-shared bits)
 
-module _ (sf : List ℕ) (q : ℕ) where
-  read : Small (read_scale (take 42 (extra_bits sf q)))
-  read = scale_small (take 42 (extra_bits sf q))
+pub number_small : (o : Option Factors) → (number_of_factors o ≡ 0) ⊎ (number_of_factors o ≡ 5)
+number_small None = inr refl
+number_small (Some f) = inl refl
 
-  pub number_small : ((extra_of sf q).number ≡ 0) ⊎ ((extra_of sf q).number ≡ 5)
-  unfolding extra_of
-  number_small = rw (extra-reading (extra_bits sf q) (extra-bits-below sf q)) read.number
-
-  side-small : (k : ℕ) → side_of (extra_of sf q) k ≤ 7
-  unfolding extra_of
-  side-small k =
-      rw (extra-reading (extra_bits sf q) (extra-bits-below sf q))
-      (either_way (eqb k 0) (λ t. rw t read.left) (λ t. rw t read.right))
+side-small : (a : Answer ℕ) (k : ℕ) → Small a → factor_or (factors_in a) k < 9
+unfolding factor_or
+side-small a k small =
+    let left = small.left in
+    let right = small.right in
+    either_way (eqb a.number 0)
+    (λ t. rw t (either_way (eqb k 0) (λ u. rw u (omega (arith, left))) (λ u. rw u (omega (arith, right)))))
+    (λ t. rw t (omega arith))
 
 pub factor-small : (sf : List ℕ) (c : ℕ) → factor_read sf c < 9
-unfolding factor_read factor_or
-factor-small sf c =
-    let side = side-small sf (c / 2) (c % 2) in
-    either_way (eqb (extra_of sf (c / 2)).number 0) (λ t. rw t (omega (arith, side))) (λ t. rw t (omega arith))
+unfolding factor_read extra_of
+factor-small sf c = let bits = take 42 (extra_bits sf (c / 2)) in side-small (read_scale bits) (c % 2) (scale_small bits)

@@ -15,7 +15,7 @@ use native.Mathlib.Omega.{arith}
 use borrow.Author.Tests.{eqb-true, eqb-false}
 use lib.Dec.{eqb}
 use lib.IntN.{ℤ, pos}
-use lib.ListN.{length, get_or}
+use lib.ListN.{length, get_or, take}
 use Rattle.std.specs.declared.result.Result.{Result}
 use Rattle.std.specs.declared.result.Result.TheVariants.{Ok, Err}
 use Rattle.bits.specs.Refused.{number_in}
@@ -35,11 +35,10 @@ use Rattle.sound.specs.Document.{place_in}
 use Rattle.sound.specs.Sound.{sound_at, mark_with, code_in, sample_at, mark_at, in_rows, samples_of, marks_of}
 use Rattle.sound.proofs.Stands.{sample-is, mark-is, channel-stands}
 use Rattle.nearest.specs.declared.Extra.{Extra}
-use Rattle.nearest.specs.Extra.{extra_answer}
-use Rattle.nearest.proofs.ExtraBits.{extra-word}
-use Rattle.beside.specs.Beside.{extra_bits, extra_of, factor_or, side_of, factor_read, word_at, programmes_of}
+use Rattle.nearest.specs.Reading.{read_scale}
+use Rattle.nearest.specs.Extra.{information, beside}
+use Rattle.beside.specs.Beside.{extra_of, number_of_factors, places_of_factors, factor_or, factor_read, word_at, programmes_of}
 use Rattle.beside.specs.Document.{OnlyScale}
-use Rattle.beside.proofs.Scales.{extra-bits-below}
 use Rattle.beside.proofs.Stands.{five-missing}
 use Rattle.running.specs.Running.{with_taken}
 use Rattle.running.specs.declared.Running.{Running}
@@ -191,7 +190,7 @@ module _ (q : ℕ) (low : 1 ≤ q) (high : q ≤ 16) (sf sf' : List ℕ) (d : On
   -- every other programme reads as before, and this one's information word
   other-same : (r : ℕ) → r < 16 → r ≢ q - 1 → extra_of sf r ≡ extra_of sf' r
   unfolding extra_of
-  other-same r l n = ap extra_answer (one.extra-same q low high sf sf' d r l n)
+  other-same r l n = ap (λ (bits : List ℕ). beside (information bits) (read_scale (take 42 bits))) (one.extra-same q low high sf sf' d r l n)
 
   word-at : (r : ℕ) → r < 16 → word_at sf r ≡ word_at sf' r
   unfolding extra_of
@@ -199,9 +198,7 @@ module _ (q : ℕ) (low : 1 ≤ q) (high : q ≤ 16) (sf sf' : List ℕ) (d : On
       either_way (eqb r (q - 1))
       (λ t.
       let mine : r ≡ q - 1 = eqb-true r (q - 1) t in
-      rw mine
-      (extra-word (extra_bits sf (q - 1)) (extra-bits-below sf (q - 1)) ∙ one.word_same q low high sf sf' d
-      ∙ sym (extra-word (extra_bits sf' (q - 1)) (extra-bits-below sf' (q - 1)))))
+      rw mine (one.word_same q low high sf sf' d))
       (λ t. ap (λ (x : Extra). x.word) (other-same r l (eqb-false r (q - 1) t)))
 
   words_same : (programmes_of sf).words ≡ (programmes_of sf').words
@@ -215,11 +212,11 @@ module _ (q : ℕ) (low : 1 ≤ q) (high : q ≤ 16) (sf sf' : List ℕ) (d : On
 
   numbers-same : (p : ℕ) → p < 16 → p ≢ q - 1 → get_or (programmes_of sf).numbers p 0 ≡ get_or (programmes_of sf').numbers p 0
   unfolding programmes_of
-  numbers-same = each_same (λ x. x.number)
+  numbers-same = each_same (λ x. number_of_factors x.factors)
 
   places_same : (p : ℕ) → p < 16 → p ≢ q - 1 → get_or (programmes_of sf).places p 0 ≡ get_or (programmes_of sf').places p 0
   unfolding programmes_of
-  places_same = each_same (λ x. x.places)
+  places_same = each_same (λ x. places_of_factors x.factors)
 
   factors-off : OffProgramme q (programmes_of sf).factors (programmes_of sf').factors
   unfolding programmes_of factor_read
@@ -227,7 +224,7 @@ module _ (q : ℕ) (low : 1 ≤ q) (high : q ≤ 16) (sf sf' : List ℕ) (d : On
       record {
         same = λ c l n.
             get_or-tab 32 (factor_read sf) c 0 l
-            ∙ ap (λ (x : Extra). factor_or x.number (side_of x (c % 2))) (other-same (c / 2) (omega arith) n)
+            ∙ ap (λ (x : Extra). factor_or x.factors (c % 2)) (other-same (c / 2) (omega arith) n)
             ∙ sym (get_or-tab 32 (factor_read sf') c 0 l);
       }
 

@@ -13,6 +13,7 @@ use lib.IntN.{ℤ, pos}
 use lib.ListN.{length, get_or, take, drop, length-append, length-drop}
 use lib.Seq.{ext_get_or, get_or-take, get_or-drop, drop_at}
 use Rattle.bits.specs.Bits.{ones}
+use Rattle.bits.proofs.Refused.{ok_same}
 use Rattle.bits.proofs.Digits.{below-append}
 use Rattle.bits.proofs.Bits.{bits_below}
 use Rattle.code.specs.Generators.{block_generator}
@@ -81,7 +82,8 @@ module _ (radius : ℕ) (small : radius ≤ largest_radius) (sf : List ℕ) (f p
   unfolding codes_of
   written-code j l =
       let bits = (heard radius written Rattle.block.specs.Read.clean (written-clean codes extra h.four h.two h.good h.bits radius small)).0 in
-      let same : codes_at written ≡ codes = rw bits at (ap (λ (b : BlockCodes). b.codes) (written-codes codes extra h.four h.two h.good h.bits)) in
+      let whole = rw bits at (written-codes codes extra h.four h.two h.good h.bits) in
+      let same : codes_at written ≡ codes = ap (λ (b : BlockCodes). b.codes) (ok_same whole) in
       sym (code-there written j l) ∙ ap (λ (l : List ℤ). get_or l j (pos 0)) same
 
   pub code-back : (j : ℕ) → j < 4 → code_at (handed_on radius (block_in sf f p)) j ≡ get_or codes j (pos 0)
