@@ -1,14 +1,17 @@
 -- How long the lines beside a superframe's sound are.
---     HeldBeside t      the small numbers are bytes, the service bytes are six and the numbers of places sixteen bytes
+--     HeldBeside t      the position is a byte, the service bytes are six and the numbers of places sixteen bytes
 --     beside-fits       the five lines have at most 822 characters
 -- Assumes nothing.
 use mathlib.Core.Path.{◌≡◌}
-use mathlib.Core.Bool.{Bool, true, false}
 use mathlib.Core.List.{List, [], ◌∷◌, ◌++◌}
 use Prim.Native.Nat.{ℕ, ◌≤◌, ◌<◌}
 use native.Mathlib.Omega.{arith}
 use lib.Dec.{eqb}
 use lib.ListN.{length, get_or, length-append}
+use Rattle.std.specs.Prelude.{Option, Some, None}
+use Rattle.service_sync.specs.Sync.{number_of}
+use Rattle.service_sync.specs.declared.Kind.{Kind}
+use Rattle.service_sync.specs.declared.Kind.TheVariants.{First, Second, Neither}
 use Rattle.bits.specs.Digits.{digits, Below}
 use Rattle.bits.specs.Letters.{letters}
 use Rattle.bits.proofs.Digits.{length_digits, below-get_or}
@@ -24,7 +27,6 @@ use Rattle.beside_text.specs.Lines.{next_hex, service_line, labels_line, pair_te
 
 pub record HeldBeside (t : Taken) : Type 0 where
   pub position : t.position < 256
-  pub service : t.service < 256
   pub six : length t.six ≡ 6
   pub places : (length t.programmes.places ≡ 16) × Below 256 t.programmes.places
 
@@ -40,13 +42,18 @@ length-service position number six p n s =
       length-append (hexadecimal six) (10 ∷ []),
     ) (omega (arith, d, e, h, s))
 
-length-labels : (complete : Bool) (labels : List ℕ) → length (labels_line complete labels) ≤ 551
+small_number : (k : Kind) → number_of k < 256
+small_number First = omega arith
+small_number Second = omega arith
+small_number Neither = omega arith
+
+length-labels : (labels : Option (List ℕ)) → length (labels_line labels) ≤ 551
 unfolding labels_line letters
-length-labels true labels =
+length-labels (Some labels) =
     let label : ℕ → List ℕ = λ c. next_hex (part 8 c labels) in
     let all = length-turns 17 32 label (λ c l. let h = length-hex (part 8 c labels) in let p = length_part 8 c labels in omega (arith, h, p)) in
     rw (length-append (in_turn 32 label) (10 ∷ [])) (omega (arith, all))
-length-labels false labels = omega arith
+length-labels None = omega arith
 
 length-pair : (number : ℕ) (factors : List ℕ) → length factors ≤ 2 → length (pair_text number factors) ≤ 3
 unfolding pair_text letters
@@ -84,15 +91,15 @@ length-words words =
 pub beside-fits : (t : Taken) → HeldBeside t → length (beside_text t) ≤ 822
 unfolding beside_text
 beside-fits t h =
-    let a = length-service t.position t.service t.six h.position h.service h.six in
-    let b = length-labels t.complete t.labels in
+    let a = length-service t.position (number_of t.kind) t.six h.position (small_number t.kind) h.six in
+    let b = length-labels t.labels in
     let c = length-factors t.programmes.numbers t.programmes.factors in
     let e = length-far t.programmes.numbers t.programmes.places
     (λ q l. let sixteen = h.places.0 in below-get_or 256 t.programmes.places q h.places.1 (omega arith)) in
     let d = length-words t.programmes.words in
     rw (
-      length-append (service_line t.position t.service t.six) _,
-      length-append (labels_line t.complete t.labels) _,
+      length-append (service_line t.position (number_of t.kind) t.six) _,
+      length-append (labels_line t.labels) _,
       length-append (factors_line t.programmes.numbers t.programmes.factors) _,
       length-append (far_line t.programmes.numbers t.programmes.places) _,
     ) (omega (arith, a, b, c, d, e))

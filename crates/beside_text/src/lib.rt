@@ -7,7 +7,7 @@ ghost use Rattle.text.specs.Pens.{Puts};
 ghost use Rattle.text_rows.specs.Turns.{in_turn, PutsTurns};
 ghost use Rattle.beside_text.specs.Lines.{next_hex, service_line, labels_line, pair_text, factors_line, places_text, far_line, words_line, beside_text, information_line};
 
-use superframe::Taken;
+use superframe::{NotTaken, Taken};
 use text::Pen;
 
 // A line of texts that follow one another, each as a closure puts it: a word, so many texts, and the end.
@@ -37,18 +37,14 @@ fn put_service(pen: &mut Pen<'_>, position: u8, number: u8, six: &[u8])
     pen.put(b'\n');
 }
 
-fn put_labels(pen: &mut Pen<'_>, complete: bool, labels: [u8; 256])
-    ensures { Puts pen.old pen.new (labels_line complete labels) }
+fn put_labels(pen: &mut Pen<'_>, labels: Option<[u8; 256]>)
+    ensures { Puts pen.old pen.new (labels_line labels) }
 {
-    if complete {
-        put_line(
-            pen,
-            b"labels",
-            32,
-            |pen, c| put_next_hex(pen, &labels[8 * c..8 * c + 8]),
-        );
-    } else {
-        pen.put_all(b"labels none\n");
+    match labels {
+        Some(labels) => put_line(pen, b"labels", 32, |pen, c| {
+            put_next_hex(pen, &labels[8 * c..8 * c + 8]);
+        }),
+        None => pen.put_all(b"labels none\n"),
     }
 }
 
@@ -112,22 +108,21 @@ fn put_words(pen: &mut Pen<'_>, words: [u32; 16])
 }
 
 // A line of information words alone, as the folder for the restorers has it for each superframe; `lost` for one that was not taken.
-#[tactic(auto, unfolding(crate::specs::Lines::information_line, bits::specs::Letters::letters))]
-pub fn put_information(pen: &mut Pen<'_>, taken: Taken)
+pub fn put_information(pen: &mut Pen<'_>, taken: Result<Taken, NotTaken>)
     ensures { Puts pen.old pen.new (information_line taken) }
 {
-    if taken.number == 0 {
-        put_words(pen, taken.programmes.words);
-    } else {
-        pen.put_all(b"lost\n");
+    match taken {
+        Ok(taken) => put_words(pen, taken.programmes.words),
+        Err(_) => pen.put_all(b"lost\n"),
     }
 }
 
 pub fn put_beside(pen: &mut Pen<'_>, taken: Taken)
     ensures { Puts pen.old pen.new (beside_text taken) }
 {
-    put_service(pen, taken.position, taken.service, &taken.six);
-    put_labels(pen, taken.complete, taken.labels);
+    let number = service_sync::number_of(taken.kind);
+    put_service(pen, taken.position, number, &taken.six);
+    put_labels(pen, taken.labels);
     put_factors(pen, taken.programmes.numbers, taken.programmes.factors);
     put_far(pen, taken.programmes.numbers, taken.programmes.places);
     put_words(pen, taken.programmes.words);

@@ -1,11 +1,12 @@
 -- Lines of a transcript (docs/TRANSCRIPT.md), letter by letter: what the definitions give for the parts that an example shows.
 -- Assumes nothing.
 use mathlib.Core.Path.{◌≡◌, refl}
-use mathlib.Core.Bool.{false}
 use mathlib.Core.List.{List, [], ◌∷◌, ◌++◌}
 use Prim.Native.Nat.{ℕ}
 use lib.IntN.{ℤ, pos, negsuc}
+use Rattle.std.specs.Prelude.{None, Err}
 use Rattle.bits.specs.Digits.{digits}
+use Rattle.bits.specs.declared.refusal.Refusal.TheVariants.{Sync}
 use Rattle.bits.specs.Letters.{letters}
 use Rattle.text.specs.Digits.{decimal_in}
 use Rattle.text_rows.specs.Rows.{spelled}
@@ -25,7 +26,7 @@ service-case : service_line 1 0 (0 ∷ 0 ∷ 0 ∷ 0 ∷ 88 ∷ 0 ∷ []) ≡ le
 unfolding service_line letters decimal_in spelled
 service-case = refl
 
-labels-case : labels_line false [] ≡ letters "labels none\n"
+labels-case : labels_line None ≡ letters "labels none\n"
 unfolding labels_line letters
 labels-case = refl
 
@@ -59,6 +60,6 @@ unfolding samples_line letters decimal_in in_turn
 samples-case = refl
 
 -- a lost superframe is its first line alone
-lost-case : (s : State) (samples : List ℤ) (marks : List ℕ) → superframe_text 2 (refused_with 3 s) samples marks ≡ letters "superframe 2 number 3\n"
-unfolding superframe_text head_line letters decimal_in refused_with
+lost-case : (s : State) (samples : List ℤ) (marks : List ℕ) → superframe_text 2 (Err (refused_with Sync s)) samples marks ≡ letters "superframe 2 number 3\n"
+unfolding superframe_text head_line letters decimal_in
 lost-case s samples marks = refl

@@ -7,7 +7,7 @@ ghost use Rattle.text.specs.Entry.{entered};
 ghost use Rattle.transcript_text.specs.Superframe.{head_line, sync_line, blocks_line, superframe_text, entered_superframe};
 
 use bits::Refusal;
-use superframe::Taken;
+use superframe::{NotTaken, Taken};
 use tape::Blocks;
 use text::Pen;
 
@@ -41,24 +41,33 @@ fn put_wrong(pen: &mut Pen<'_>, wrong: u16)
     pen.put(b'\n');
 }
 
-fn put_lines(pen: &mut Pen<'_>, k: u32, taken: Taken, samples: &[i16], marks: &[u8])
+fn put_lines(
+    pen: &mut Pen<'_>,
+    k: u32,
+    taken: Result<Taken, NotTaken>,
+    samples: &[i16],
+    marks: &[u8],
+)
     requires { (length samples.now ≡ 2048) × (length marks.now ≡ 2048) }
     ensures { Puts pen.old pen.new (superframe_text k taken samples.now marks.now) }
 {
-    put_head(pen, k, taken.number);
-    if taken.number == 0 {
-        beside_text::put_beside(pen, taken);
-        put_wrong(pen, taken.wrong);
-        put_blocks(pen, taken.blocks);
-        frames_text::put_frames(pen, samples, marks);
+    match taken {
+        Ok(taken) => {
+            put_head(pen, k, 0);
+            beside_text::put_beside(pen, taken);
+            put_wrong(pen, taken.wrong);
+            put_blocks(pen, taken.blocks);
+            frames_text::put_frames(pen, samples, marks);
+        }
+        Err(refused) => put_head(pen, k, refused.why.number()),
     }
 }
 
-// The lines of superframe k from the pen's place on.
+// The lines of superframe k from the pen's place on, by what taking it answered.
 pub fn put_superframe(
     pen: &mut Pen<'_>,
     k: u32,
-    taken: Taken,
+    taken: Result<Taken, NotTaken>,
     samples: &[i16],
     marks: &[u8],
 ) -> Result<(), Refusal>

@@ -4,10 +4,10 @@ use Rattle.bits.specs.Letters.{letters}
 use Rattle.beside_text.specs.Lines.{labels_line}
 use Rattle.beside_text.proofs.put_labels.Goals as goal
 
-pub returns-then-complete : goal.returns-then-complete
+pub returns-in-Some : goal.returns-in-Some
 unfolding labels_line letters
-returns-then-complete c = rw c.if-complete.true (c.put_line.ensures _ (λ i p q l k. search rules))
+returns-in-Some c = rw c.in-Some.is (c.put_line.ensures _ (λ i p q l k. search rules))
 
-pub returns-else-complete : goal.returns-else-complete
+pub returns-in-None : goal.returns-in-None
 unfolding labels_line letters
-returns-else-complete c = rw c.if-complete.false c.put_all.ensures
+returns-in-None c = rw c.in-None.is c.put_all.ensures

@@ -1,15 +1,15 @@
 -- `put_lines` meets its contract. Assumes nothing.
-use mathlib.Core.Path.{◌≡◌, refl, ◌∙◌}
-use mathlib.Core.List.{List, append-nil}
+use mathlib.Core.Path.{◌≡◌, refl, ap, ◌∙◌}
+use mathlib.Core.List.{List}
 use Prim.Native.Nat.{ℕ}
-use borrow.Author.Tests.{eq-eqb, ne_eqb}
+use borrow.Author.Tests.{eq-eqb}
 use lib.IntN.{ℤ}
 use lib.ListN.{length}
 use Rattle.text.specs.Page.{Page, put_text}
 use Rattle.text.specs.Pens.{Puts}
-use Rattle.text.proofs.Pens.{puts_then}
+use Rattle.text.proofs.Pens.{puts_as, puts_then}
 use Rattle.frames_text.specs.Frames.{frames_text, frames_put}
-use Rattle.transcript_text.specs.Superframe.{superframe_text}
+use Rattle.transcript_text.specs.Superframe.{head_line, superframe_text}
 use Rattle.transcript_text.proofs.put_lines.Goals as goal
 
 -- with 2,048 samples and marks all lines of the frames are put
@@ -18,14 +18,13 @@ all-frames : (p : Page) (samples : List ℤ) (marks : List ℕ) → (length samp
 unfolding frames_put
 all-frames p samples marks h = rw (eq-eqb _ _ h.0, eq-eqb _ _ h.1) refl
 
-pub returns-then-taken-eq0 : goal.returns-then-taken-eq0
+pub returns-in-Ok : goal.returns-in-Ok
 unfolding superframe_text
-returns-then-taken-eq0 c =
+returns-in-Ok c =
     let frames : Puts c.put_blocks.new.pen c.put_frames.new.pen _ =
     record { same_buffer = c.put_frames.ensures.same_buffer; told = c.put_frames.ensures.told ∙ all-frames _ _ _ c.requires } in
-    rw (eq-eqb _ _ c.if-taken-eq0.true)
-    (puts_then c.put_head.ensures (puts_then c.put_beside.ensures (puts_then c.put_wrong.ensures (puts_then c.put_blocks.ensures frames))))
+    rw c.in-Ok.is (puts_then c.put_head.ensures (puts_then c.put_beside.ensures (puts_then c.put_wrong.ensures (puts_then c.put_blocks.ensures frames))))
 
-pub returns-else-taken-eq0 : goal.returns-else-taken-eq0
+pub returns-in-Err : goal.returns-in-Err
 unfolding superframe_text
-returns-else-taken-eq0 c = rw (ne_eqb _ _ c.if-taken-eq0.false, append-nil) c.put_head.ensures
+returns-in-Err c = rw c.in-Err.is (puts_as (ap (head_line c.args.k) c.number.ensures) c.put_head-in-Err.ensures)
