@@ -25,7 +25,7 @@ fn write_listing(
 // Whole superframes alone are counted. One that cannot be counted leaves the totals as they are.
 fn list_reel(rt: HostRuntime, header: Header) -> Result<(), Fault> {
     let mut totals = Totals::none();
-    input::read_all(
+    let came = input::read_all(
         &mut rt.stdin(),
         Some(rt.stderr()),
         header,
@@ -35,7 +35,7 @@ fn list_reel(rt: HostRuntime, header: Header) -> Result<(), Fault> {
         },
     )?;
     write_listing(rt.stdout(), Ok(header), totals)?;
-    ending::ending_of(header.count, totals.superframes)
+    ending::ending_of(header.count, u64::from(came))
 }
 
 fn list(rt: HostRuntime) -> Result<(), Fault> {
