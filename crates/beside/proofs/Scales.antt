@@ -32,7 +32,7 @@ use Rattle.tape.proofs.Tape.{block-bits}
 use Rattle.tape.specs.Document.{entry}
 use Rattle.beside.specs.Beside.{extra_bit, extra_bits, extra_of, number_of_factors, places_of_factors, places_at, programmes_of}
 use Rattle.beside.specs.Document.{scale_bits, ReadAs, Unread}
-use Rattle.beside.proofs.Stands.{number_is, five-missing, factor-there}
+use Rattle.beside.proofs.Stands.{number_is, five-missing, factor-read-as}
 
 pub extra-bits-below : (sf : List ℕ) (q : ℕ) → are_bits (extra_bits sf q) ≡ true
 unfolding extra_bits extra_bit
@@ -63,8 +63,8 @@ module _ (sf : List ℕ) (q : ℕ) (k : 1 ≤ q) (l : q ≤ 16) where
       let whole : (extra_of sf (q - 1)).factors ≡ Some f = given (accepted (a ∷ b ∷ n ∷ [])) e in
       record {
         number = numbered (Some f) whole;
-        left = factor-there sf q 1 k l (omega arith) (omega arith) f whole;
-        right = factor-there sf q 2 k l (omega arith) (omega arith) f whole;
+        left = factor-read-as sf q 1 k l (omega arith) (omega arith) f whole;
+        right = factor-read-as sf q 2 k l (omega arith) (omega arith) f whole;
         places = places_is ∙ ap places_of_factors whole;
       }
 

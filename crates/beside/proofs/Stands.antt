@@ -4,7 +4,7 @@
 --     five-missing          "inside a superframe that programme's factors are missing", both of them
 --     service-stands, six-stands, sync-stands     service bit f is bit 12 of main frame f of A; "service bits 1 to 48 of a superframe are six data bytes, and
 --                           bits 49 to 64 are the sync"
---     factor-there          and where there is no number they are those that the extra bits read as
+--     factor-read-as, factor-there    and where there is no number they are those that the extra bits read as
 -- Assumes nothing.
 use mathlib.Core.Path.{◌≡◌, refl, sym, ap, ap₂, ◌∙◌}
 use mathlib.Core.Bool.{cond}
@@ -26,7 +26,7 @@ use Rattle.nearest.specs.declared.Factors.{Factors}
 use Rattle.tape.specs.Tape.{frame_at}
 use Rattle.tape.specs.Document.{entry, channel_of, Carries, a_first, a_second, b-first, b-second}
 use Rattle.tape.proofs.Carried.{carried}
-use Rattle.beside.specs.Beside.{extra_bit, extra_bits, extra_of, number_of_factors, factor_or, factor_read, number_at, programmes_of, service_bit, service_bits, sync_of, six_and_sync}
+use Rattle.beside.specs.Beside.{extra_bit, extra_bits, extra_of, number_of_factors, side_of, factor_or, factor_read, number_at, programmes_of, service_bit, service_bits, sync_of, six_and_sync}
 use Rattle.beside.specs.Document.{missing, extra_number}
 use Rattle.beside.proofs.Carried.{byte-there, six-there}
 
@@ -74,9 +74,19 @@ module _ (sf : List ℕ) (q side : ℕ) (k : 1 ≤ q) (l : q ≤ 16) (m : 1 ≤ 
   pub five-missing : entry (programmes_of sf).numbers q 0 ≢ 0 → entry (programmes_of sf).factors (channel_of q side) 0 ≡ missing
   five-missing h = factor-read ∙ none-missing (extra_of sf (q - 1)).factors (side - 1) (λ e. h (number_is ∙ e))
 
-  pub factor-there : (f : Factors) → (extra_of sf (q - 1)).factors ≡ Some f → entry (programmes_of sf).factors (channel_of q side) 0 ≡ cond (eqb (side - 1) 0) f.left f.right
+  pub factor-read-as : (f : Factors) → (extra_of sf (q - 1)).factors ≡ Some f → entry (programmes_of sf).factors (channel_of q side) 0 ≡ side_of f (side - 1)
   unfolding factor_or
-  factor-there f e = factor-read ∙ rw e
+  factor-read-as f e = factor-read ∙ rw e
+
+  some-read : (o : Option Factors) → number_of_factors o ≡ 0 → (f : Factors) × (o ≡ Some f)
+  some-read None e = cc
+  some-read (Some f) e = (f, refl)
+
+  pub factor-there : entry (programmes_of sf).numbers q 0 ≡ 0
+      → (f : Factors) × ((extra_of sf (q - 1)).factors ≡ Some f) × (entry (programmes_of sf).factors (channel_of q side) 0 ≡ side_of f (side - 1))
+  factor-there e =
+      let s = some-read (extra_of sf (q - 1)).factors (sym number_is ∙ e) in
+      (s.0, s.1, factor-read-as s.0 s.1)
 
 -- ---- service bits
 module _ (sf : List ℕ) where

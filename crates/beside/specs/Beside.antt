@@ -4,7 +4,8 @@
 --                           a block belongs to its first programme, the second to its second
 --     extra_of sf q          what they read as: two factors and in how many places their word differs, or none, which is number 5; and the information word
 --     number_of_factors o, places_of_factors o    the number of a programme whose factors read so, and in how many places their word differs
---     factor_or o k          a side's factor, the left of side 0: missing, 8, where there are none
+--     side_of f k            a side's factor, the left of side 0
+--     factor_or o k          the same: missing, 8, where there are none
 --     factor_read sf c       the factor of channel c that holds for the superframe after the next
 --     programmes_of sf       the numbers, places and words of the 16 programmes and the factors of the 32 channels
 --     programmes_answer sf   what asking for them answers: number 1 for another length than 5,120
@@ -49,9 +50,12 @@ abbrev pub places_of_factors : Option Factors → ℕ
 places_of_factors None = 0
 places_of_factors (Some f) = f.places
 
+abbrev pub side_of : Factors → ℕ → ℕ
+side_of f k = cond (eqb k 0) f.left f.right
+
 unfoldable pub factor_or : Option Factors → ℕ → ℕ
 factor_or None k = 8
-factor_or (Some f) k = cond (eqb k 0) f.left f.right
+factor_or (Some f) k = side_of f k
 
 unfoldable pub factor_read : List ℕ → ℕ → ℕ
 factor_read sf c = factor_or (extra_of sf (c / 2)).factors (c % 2)

@@ -14,7 +14,7 @@ pub struct Running {
     pub taken: u32,
     // superframes lost; with those taken at most 1,000,000
     pub lost: u32,
-    // blocks of programmes 1 to 16; the three add up to 64 for each superframe taken
+    // blocks of programmes 1 to 16, a list for each kind, to which a superframe's counts of that kind are added; the three add up to 64 for each superframe taken
     pub clean: [u32; 16],
     pub mended: [u32; 16],
     pub bad: [u32; 16],

@@ -10,7 +10,7 @@ use super::frames;
 use bits::Refusal;
 use words::{Reader, Told};
 
-// For each of the eight block positions, how many of its 64 blocks read so.
+// For each of the eight block positions, how many of its 64 blocks read so: a list for each kind, as the totals add them up (tally::sum, Running::take).
 #[derive(Clone, Copy)]
 pub struct Blocks {
     pub clean: [u8; 8],

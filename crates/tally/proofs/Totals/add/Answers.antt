@@ -12,7 +12,7 @@ returns-in-Ok c = rw (c.in-Ok.is, c.with_read.ensures)
 
 pub returns-in-Sync : goal.returns-in-Sync
 unfolding added_to
-returns-in-Sync c = rw (c.in-Err.is, c.in-Sync.is, c.with_lost.ensures)
+returns-in-Sync c = rw (c.in-Err.is, c.in-Sync.is) cc
 
 pub returns-in_default : goal.returns-in_default
 unfolding added_to
