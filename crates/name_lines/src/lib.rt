@@ -1,7 +1,7 @@
 // The lines of labels in the list of names, put by a pen while superframes go by, and the labels that were noted last.
 #![tactic(auto)]
 
-ghost use Rattle.std.specs.Prelude.{◌≡◌, cond, ◌%◌, ◌<◌, eqb, length};
+ghost use Rattle.std.specs.Prelude.{◌≡◌, cond, ◌%◌, ◌<◌, eqb};
 ghost use Rattle.bits.specs.Letters.{letters};
 ghost use Rattle.text.specs.Pens.{Puts};
 ghost use Rattle.name_lines.specs.Names.{head_text, plain, quoted, label_line, same_to, same_as, channel_line, label_text, no_labels, Labelling};
@@ -64,16 +64,16 @@ fn put_label(pen: &mut Pen<'_>, k: u32, c: u8, label: &[u8])
     pen.put_all(b"\"\n");
 }
 
-fn same_label(old: &[u8], new: &[u8], c: usize) -> bool
-    requires { (length old.now ≡ 256) × (length new.now ≡ 256) × (c < 32) }
+fn same_label(old: &[u8; 256], new: &[u8; 256], c: usize) -> bool
+    requires { c < 32 }
     ensures { result ≡ same_to 8 old.now new.now c }
 {
     let first = 8 * c;
     old[first..first + 8] == new[first..first + 8]
 }
 
-fn unchanged(old: Option<[u8; 256]>, new: &[u8], c: usize) -> bool
-    requires { (length new.now ≡ 256) × (c < 32) }
+fn unchanged(old: Option<[u8; 256]>, new: &[u8; 256], c: usize) -> bool
+    requires { c < 32 }
     ensures { result ≡ same_as old new.now c }
 {
     match old {
@@ -82,8 +82,8 @@ fn unchanged(old: Option<[u8; 256]>, new: &[u8], c: usize) -> bool
     }
 }
 
-fn put_channel(pen: &mut Pen<'_>, k: u32, old: Option<[u8; 256]>, new: &[u8], c: usize)
-    requires { (length new.now ≡ 256) × (c < 32) }
+fn put_channel(pen: &mut Pen<'_>, k: u32, old: Option<[u8; 256]>, new: &[u8; 256], c: usize)
+    requires { c < 32 }
     ensures { Puts pen.old pen.new (channel_line k old new.now c) }
 {
     if unchanged(old, new, c) {
@@ -119,9 +119,8 @@ pub fn put_labels(
 ) -> Result<Labels, Refusal>
     ensures { Labelling noted k labels pen.old pen.new result }
 {
-    let old = noted.noted;
-    pen.put_whole(|pen| put_lines(pen, k, old, labels))?;
+    pen.put_whole(|pen| put_lines(pen, k, noted.noted, labels))?;
     Ok(Labels {
-        noted: labels.or(old),
+        noted: labels.or(noted.noted),
     })
 }

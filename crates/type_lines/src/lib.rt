@@ -1,7 +1,7 @@
 // The lines of programme types in the list of names, put by a pen while superframes go by, and what was noted last.
 #![tactic(auto)]
 
-ghost use Rattle.std.specs.Prelude.{◌≡◌, cond, ◌<◌, ◌≤◌, eqb, length, take};
+ghost use Rattle.std.specs.Prelude.{◌≡◌, cond, eqb, take};
 ghost use Rattle.bits.specs.Letters.{letters};
 ghost use Rattle.text.specs.Pens.{Puts};
 ghost use Rattle.type_lines.specs.Types.{held_to, bare, type_line, byte_line, type_lines, type_text, tells, byte_noted, bytes_noted, no_types, types_after, Typing};
@@ -21,29 +21,24 @@ pub struct Types {
 }
 
 // Without the spaces at its end.
-fn held(letters: &[u8]) -> usize
-    requires { length letters.now ≡ 8 }
-    ensures { (result ≡ held_to 8 letters.now) × (result ≤ 8) }
+fn held(name: &[u8; 8]) -> &[u8]
+    ensures { result.now ≡ take (held_to 8 name.now) name.now }
 {
-    let mut n: usize = 8;
-    while 0 < n && letters[n - 1] == 32 {
-        n -= 1;
+    let mut letters: &[u8] = name;
+    while let Some((&last, front)) = letters.split_last() {
+        if last != b' ' {
+            break;
+        }
+        letters = front;
     }
-    n
-}
-
-fn put_held(pen: &mut Pen<'_>, letters: &[u8])
-    requires { length letters.now ≡ 8 }
-    ensures { Puts pen.old pen.new (take (held_to 8 letters.now) letters.now) }
-{
-    pen.put_all(&letters[..held(letters)]);
+    letters
 }
 
 fn put_name(pen: &mut Pen<'_>, kind: u8)
     ensures { Puts pen.old pen.new (bare kind) }
 {
     let name = programme::name_of(kind).unwrap_or([0; 8]);
-    put_held(pen, &name);
+    pen.put_all(held(&name));
 }
 
 #[tactic(auto, unfolding(bits::specs::Letters::letters))]
@@ -80,15 +75,13 @@ fn put_byte(pen: &mut Pen<'_>, k: u32, c: u8, old: u8, new: u8)
     }
 }
 
-fn put_bytes(pen: &mut Pen<'_>, k: u32, old: &[u8], new: &[u8])
-    requires { (length old.now ≡ 32) × (length new.now ≡ 32) }
+fn put_bytes(pen: &mut Pen<'_>, k: u32, old: &[u8; 32], new: &[u8; 32])
     ensures { Puts pen.old pen.new (type_lines k old.now new.now) }
 {
     text_rows::put_turns(pen, 32, |pen, c| put_byte(pen, k, c as u8, old[c], new[c]));
 }
 
-fn put_told(pen: &mut Pen<'_>, told: bool, k: u32, old: &[u8], new: &[u8])
-    requires { (length old.now ≡ 32) × (length new.now ≡ 32) }
+fn put_told(pen: &mut Pen<'_>, told: bool, k: u32, old: &[u8; 32], new: &[u8; 32])
     ensures { Puts pen.old pen.new (type_text told k old.now new.now) }
 {
     if told {
@@ -101,10 +94,11 @@ fn put_told(pen: &mut Pen<'_>, told: bool, k: u32, old: &[u8], new: &[u8])
 fn is_told(at: u32, k: u32, position: u8, stage: u8, group: [u8; 32]) -> bool
     ensures { result ≡ tells at k position stage group }
 {
-    if position != 8 || stage != 0 || at == 0 {
-        return false;
-    }
-    bits::all_below(&group, 1) && u64::from(at) + 8 == u64::from(k)
+    position == 8
+        && stage == 0
+        && at != 0
+        && bits::all_below(&group, 1)
+        && u64::from(at) + 8 == u64::from(k)
 }
 
 fn noted_byte(old: u8, new: u8) -> u8
@@ -164,10 +158,7 @@ pub fn put_types(
 ) -> Result<Types, Refusal>
     ensures { Typing noted k position stage group pen.old pen.new result }
 {
-    let at = noted.superframe;
-    let told = is_told(at, k, position, stage, group);
-    let old = noted.bytes;
-    let new = noted.group;
-    pen.put_whole(|pen| put_told(pen, told, at, &old, &new))?;
+    let told = is_told(noted.superframe, k, position, stage, group);
+    pen.put_whole(|pen| put_told(pen, told, noted.superframe, &noted.bytes, &noted.group))?;
     Ok(after(noted, told, k, position, group))
 }

@@ -5,7 +5,7 @@
 ghost use Rattle.std.specs.Prelude.{◌≡◌, ◌*◌, ◌≤◌};
 ghost use Rattle.text.specs.Pens.{on, Puts};
 ghost use Rattle.text.specs.Entry.{entered};
-ghost use Rattle.wav.specs.Header.{capped, format, fields, header, entered_header};
+ghost use Rattle.wav.specs.Header.{capped, format, header, entered_header};
 
 use bits::Refusal;
 use text::Pen;
@@ -30,25 +30,18 @@ fn put_format(pen: &mut Pen<'_>, bytes: u16)
     pen.put_all(&(8 * bytes).to_le_bytes());
 }
 
-fn put_fields(pen: &mut Pen<'_>, bytes: u16, riff: u32, body: u32)
-    requires { bytes ≤ 2 }
-    ensures { Puts pen.old pen.new (fields bytes riff body) }
-{
-    pen.put_all(b"RIFF");
-    pen.put_all(&riff.to_le_bytes());
-    pen.put_all(b"WAVE");
-    put_format(pen, bytes);
-    pen.put_all(b"data");
-    pen.put_all(&body.to_le_bytes());
-}
-
-fn put_all_of(pen: &mut Pen<'_>, bytes: u16, pairs: u64)
+fn put_fields(pen: &mut Pen<'_>, bytes: u16, pairs: u64)
     requires { (1 ≤ bytes) × (bytes ≤ 2) }
     ensures { Puts pen.old pen.new (header bytes pairs) }
 {
     // of more pairs than a size can say, the bytes are too many as well
     let all = u64::from(size(pairs)) * (2 * u64::from(bytes));
-    put_fields(pen, bytes, size(36 + all), size(all));
+    pen.put_all(b"RIFF");
+    pen.put_all(&size(36 + all).to_le_bytes());
+    pen.put_all(b"WAVE");
+    put_format(pen, bytes);
+    pen.put_all(b"data");
+    pen.put_all(&size(all).to_le_bytes());
 }
 
 // The header of a file of so many pairs, its samples of one byte or of two each.
@@ -60,5 +53,5 @@ pub fn put_header(pen: &mut Pen<'_>, bytes: u16, pairs: u64) -> Result<(), Refus
     if bytes < 1 || 2 < bytes {
         return Err(Refusal::Range);
     }
-    pen.put_whole(|pen| put_all_of(pen, bytes, pairs))
+    pen.put_whole(|pen| put_fields(pen, bytes, pairs))
 }

@@ -15,6 +15,7 @@ pub returns : goal.returns
 unfolding bare
 returns c =
     puts_as
-    (ap (λ (l : List ℕ). take (held_to 8 l) l)
+    (c.held.ensures
+    ∙ ap (λ (l : List ℕ). take (held_to 8 l) l)
     (c.unwrap_or-name.ensures ∙ ap (λ (r : Result (List ℕ) Refusal). result_unwrap_or r (replicate 8 0)) c.name_of.ensures))
-    c.put_held.ensures
+    c.put_all.ensures
