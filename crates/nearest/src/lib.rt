@@ -35,6 +35,7 @@ struct Best {
     only: Option<u8>,
 }
 
+// The table by a function, since a constant promises nothing.
 fn sent() -> [u64; 64]
     ensures { result ≡ sent_table }
 {

@@ -7,7 +7,8 @@ ghost use Rattle.programme.specs.Names.{name_for};
 
 use bits::Refusal;
 
-// What a programme byte says: the type 0 to 15, 1 for music and 0 for speech, the mode 0 to 3.
+// What a programme byte says: the type 0 to 15, 1 for music and 0 for speech, the mode 0 to 3. They are numbers and no enums, since they are written and looked up
+// by number too, and one that is out of its range is refused.
 #[derive(Clone, Copy, PartialEq, Eq, Debug)]
 pub struct Programme {
     pub kind: u8,

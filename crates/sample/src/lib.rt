@@ -26,6 +26,7 @@ pub fn is_code(code: i16) -> bool
 
 // Refused with number 2 where the factor is over 7 or the sample does not fit it.
 // A sample that fits times 2^factor still has 16 bits, and a division by 4 is left at every factor.
+#[tactic(auto, unfolding(crate::specs::Sample::code_answer))]
 pub fn code_of(sample: i16, factor: u8) -> Result<i16, Refusal>
     ensures { coded result ≡ code_answer sample factor }
 {
@@ -41,6 +42,7 @@ pub fn code_of(sample: i16, factor: u8) -> Result<i16, Refusal>
 
 // Refused with number 2 where the factor is over 7 or the code has more than 14 bits.
 // Four times a code has 16 bits. The shift copies the sign, and so rounds down.
+#[tactic(auto, unfolding(crate::specs::Sample::sample_answer))]
 pub fn sample_of(code: i16, factor: u8) -> Result<i16, Refusal>
     ensures { sampled result ≡ sample_answer code factor }
 {
@@ -78,6 +80,7 @@ fn factor_for(most: u16) -> u8
 }
 
 // Refused with number 1 for another number of samples than 64.
+#[tactic(auto, unfolding(crate::specs::Factor::factor_answer))]
 pub fn factor_of(samples: &[i16]) -> Result<u8, Refusal>
     ensures { chosen result ≡ factor_answer samples.now }
 {

@@ -36,6 +36,7 @@ pub struct Served {
 }
 
 // No group open, and labels searched for.
+#[tactic(auto, unfolding(crate::specs::Service::searching_service))]
 pub fn searching() -> Service
     ensures { result ≡ searching_service }
 {
@@ -64,6 +65,7 @@ fn accepted(service: Service, sync: [u8; 16]) -> bool
 
 // The six bytes are taken first, then the sync. Refused with number 2 where the state is out of its range or an entry of the sync is no bit; the state is
 // then as it was given.
+#[tactic(auto, unfolding(crate::specs::Service::served))]
 pub fn serve(service: Service, six: [u8; 6], sync: [u8; 16]) -> Result<Served, Refusal>
     ensures { result ≡ served service six sync }
 {

@@ -13,12 +13,7 @@ fn kept_if<const N: usize>(holds: bool, list: [u8; N]) -> [u8; N]
     if holds { list } else { [0u8; N] }
 }
 
-fn stage_unless(dropped: bool, stage: u8) -> u8
-    ensures { result ≡ cond dropped 0 stage }
-{
-    if dropped { 0 } else { stage }
-}
-
+#[tactic(auto, unfolding(crate::specs::Taking::take_six, service_group::specs::Six::labels_after))]
 pub(crate) fn take_six(service: Service, six: [u8; 6]) -> Service
     ensures { result ≡ take_six service six }
 {
@@ -34,11 +29,13 @@ pub(crate) fn take_six(service: Service, six: [u8; 6]) -> Service
     }
 }
 
+#[tactic(auto, unfolding(crate::specs::Taking::take_sync))]
 pub(crate) fn take_sync(service: Service, kind: Kind) -> Service
     ensures { result ≡ take_sync kind service }
 {
     let position = service_sync::next_position(kind, service.position);
-    let stage = stage_unless(service_sync::drops(kind, service.position), service.stage);
+    let dropped = service_sync::drops(kind, service.position);
+    let stage = if dropped { 0 } else { service.stage };
     Service {
         position,
         group: kept_if(1 < position, service.group),

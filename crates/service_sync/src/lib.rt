@@ -18,6 +18,7 @@ const SYNC_1: [u8; 16] = [0, 0, 0, 0, 0, 1, 0, 1, 1, 1, 0, 0, 1, 1, 1, 1];
 
 const SYNC_2: [u8; 16] = [0, 0, 0, 0, 0, 1, 0, 1, 1, 1, 1, 1, 1, 1, 1, 1];
 
+#[tactic(auto, using(crate::proofs::Syncs::agreed), unfolding(crate::specs::Sync::kind_of))]
 pub fn kind_of(sync: [u8; 16]) -> Kind
     ensures { result ≡ kind_of sync }
 {
@@ -37,6 +38,7 @@ fn is_open(position: u8) -> bool
     0 < position && position < 8
 }
 
+#[tactic(auto, unfolding(crate::specs::Sync::is_open))]
 pub fn next_position(kind: Kind, position: u8) -> u8
     ensures { result ≡ next_position kind position }
 {

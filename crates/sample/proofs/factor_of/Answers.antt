@@ -4,15 +4,11 @@ use mathlib.Core.List.{[], ◌∷◌}
 use Prim.Native.Nat.{ℕ, ◌-◌, ◌^◌}
 use lib.Dec.{ltb}
 use lib.ListN.{length}
-use borrow.Author.Tests.{eq-eqb, ne_eqb}
+use borrow.Author.Tests.{eq-eqb}
 use Rattle.bits.specs.Answer.{accepted}
 use Rattle.sample.specs.Factor.{all_fit, factor_of, factor_answer}
 use Rattle.sample.proofs.Factor.{largest-ext}
 use Rattle.sample.proofs.factor_of.Goals as goal
-
-pub returns-then-samples-ne64 : goal.returns-then-samples-ne64
-unfolding factor_answer
-returns-then-samples-ne64 c = rw (ne_eqb (length c.args.samples.now) 64 c.if-samples-ne64.true)
 
 pub returns : goal.returns
 unfolding factor_answer factor_of

@@ -4,14 +4,10 @@ use lib.IntN.{pos, ◌*ℤ◌}
 use lib.Signed.{mag_shr, shr_z}
 use mir.Syntax.{w16}
 use mir.ValLaws.{to_z-of_z, sfits_le}
-use borrow.Author.Tests.{le-leb, lt-leb}
+use borrow.Author.Tests.{le-leb}
 use Rattle.sample.specs.Sample.{sample_answer}
 use Rattle.sample.proofs.Sample.{reached, reach-code, reach-none, room-code, shrunk}
 use Rattle.sample.proofs.sample_of.Goals as goal
-
-pub returns-then-factor-gt7 : goal.returns-then-factor-gt7
-unfolding sample_answer
-returns-then-factor-gt7 c = rw (lt-leb c.args.factor 7 c.if-factor-gt7.true)
 
 pub returns-then-reach-ge8192 : goal.returns-then-reach-ge8192
 unfolding sample_answer
