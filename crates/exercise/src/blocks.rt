@@ -19,7 +19,7 @@ pub(crate) fn write(mut words: Words<'_>, page: &mut Page<'_>) -> Option<()> {
     Some(())
 }
 
-// The number that stands for a reading: 0 clean, 1 to 3 mended with so many, 4 bad.
+// The number that stands for a reading on an answered line: 0 clean, 1 to 3 mended with so many, 4 bad.
 fn number_of(reading: BlockReading) -> u8 {
     match reading {
         BlockReading::Clean => 0,

@@ -1,10 +1,10 @@
-// A line, answered.
+// A line, answered. A call reads its words, which end there, and then writes on the page: so the two go to it side by side.
 use crate::line_words::Words;
 use crate::pages::Page;
 use crate::{blocks, frames, programmes, reels, samples, scales, states, takes};
 use superframe::State;
 
-// What the call on a line gives; None where the line is no call, and nothing is put then.
+// What the call gives that a line names by its first word; None where the line is no call, and nothing is put then.
 fn called(line: &[u8], page: &mut Page<'_>) -> Option<()> {
     let mut words = Words::of(line)?;
     match words.next()? {

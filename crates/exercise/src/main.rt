@@ -23,13 +23,13 @@ ghost use Rattle.std.specs.Prelude.{◌≤◌};
 use std::io;
 use std::io::{Read, Write};
 
-// What is held of the line that is being read.
+// What is held of the line that is being read: so many characters in fixed memory, as no program here has a heap.
 #[derive(Drop)]
 struct Line {
     bytes: [u8; 1185],
     // how many characters
     count: usize,
-    // whether earlier ones have gone out already: the line is longer than any call
+    // whether earlier ones have gone out already: the line is longer than any call. No value goes with it
     spilled: bool,
     ghost fits: { count ≤ 1185 },
 }

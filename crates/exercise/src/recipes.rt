@@ -50,8 +50,8 @@ impl Recipe {
         word[usize::from(f % 14)] ^ draws::turn(self.seed, Use::Extra, place, self.bytes[9])
     }
 
-    // Block b of main frame n as it is written, in position q of the eight.
-    fn written_at(self, n: u16, b: u16) -> [u8; 77]
+    // Block b of main frame n, in position q of the eight: as it is written, with some of its 63 protected bits turned.
+    fn block_at(self, n: u16, b: u16) -> [u8; 77]
         requires frame { n < 128 }
         requires block { b < 4 }
     {
@@ -59,15 +59,7 @@ impl Recipe {
         let q = 4 * (n / 64) + b;
         let codes = self.codes_from(32 * f + 4 * q);
         let extra = [self.extra_at(2 * q, f), self.extra_at(2 * q + 1, f)];
-        block_writer::write(codes, extra).unwrap_or([0; 77])
-    }
-
-    // The same with some of its 63 protected bits turned.
-    fn block_at(self, n: u16, b: u16) -> [u8; 77]
-        requires frame { n < 128 }
-        requires block { b < 4 }
-    {
-        let mut bits = self.written_at(n, b);
+        let mut bits = block_writer::write(codes, extra).unwrap_or([0; 77]);
         let first = 256 * n + 64 * b;
         for k in 0..63u16 {
             let turned = draws::turn(self.seed, Use::Block, first + k, self.bytes[8]);
