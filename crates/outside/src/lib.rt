@@ -32,7 +32,7 @@ fn state_from(beside: &[u8]) -> State
     }
 }
 
-// Byte k of the 88.
+// Byte k of the 88, by the five cases that the definition has.
 #[tactic(auto, unfolding(crate::specs::Outside::packed_at))]
 fn packed_at(state: &State, blocks: &Blocks, k: usize) -> u8
     requires { k < 88 }
@@ -67,7 +67,7 @@ const NO_BLOCKS: Blocks = Blocks {
     bad: [0; 8],
 };
 
-// Number 0 or 3, and the 88 bytes follow; or 1 or 2, and they stay.
+// Number 0 or 3, and the 88 bytes follow; or 1 or 2, and they stay. It is a number because C reads it.
 pub fn outside_take(
     radius: u8,
     beside: &mut [u8],

@@ -8,6 +8,7 @@ use running::Running;
 use service::Service;
 use service_sync::Kind;
 
+// The two sets of factors are two arrays of 32, as document 01 has them.
 #[derive(Clone, Copy)]
 pub struct State {
     // the factors of the 32 channels for the next superframe, 0 to 7; 8: missing
@@ -74,6 +75,7 @@ impl State {
             return Err(Refusal::Range);
         }
         let totals = self.totals.lose()?;
+        // an array goes into a literal by a variable of its own; no other way is covered by the check
         let moved = self.after;
         Ok(State {
             next: moved,

@@ -56,6 +56,7 @@ fn answered(state: State, bytes: &[u8], counted: Counted) -> Taken
     let sent = beside::six_and_sync(bytes).unwrap();
     let served = service::serve(state.service, sent.six, sent.sync).unwrap();
     let totals = state.totals.take(counted.blocks).unwrap();
+    // arrays, each by a variable of its own as in `lose`
     let moved = state.after;
     let read = programmes.factors;
     let six = sent.six;
@@ -85,7 +86,7 @@ impl State {
         Err(NotTaken { why, next: self })
     }
 
-    // Refused, nothing is written.
+    // Refused, nothing is written. What is lent may have any length, as C lends it too: a wrong one is number 1, so no type may ask for it.
     pub fn take(
         self,
         radius: u8,
