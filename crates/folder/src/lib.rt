@@ -32,7 +32,8 @@ fn put_other(pen: &mut Pen<'_>, file: u8)
     });
 }
 
-// The name of a file: 0 to 15 are the sound of programmes 1 to 16, 16 to 31 their marks, 32 to 47 their labels, 48 to 52 the files beside.
+// The name of a file: 0 to 15 are the sound of programmes 1 to 16, 16 to 31 their marks, 32 to 47 their labels, 48 to 52 the files beside. A file stays a
+// number, as `names-printed` tells all 53 names by them, and `hand_on` keeps the open files in their order.
 #[tactic(auto, unfolding(crate::specs::Files::file_name, bits::specs::Letters::letters))]
 pub fn put_name(pen: &mut Pen<'_>, file: u8)
     ensures { Puts pen.old pen.new (file_name file) }

@@ -4,7 +4,7 @@ ghost use Rattle.label.specs.Seconds.{padded, seconds};
 
 use text::Pen;
 
-// The lowest digits of a number, so many.
+// The lowest digits of a number, so many, zeros in front among them, which `put_text` does not put.
 #[tactic(auto, unfolding(crate::specs::Seconds::padded))]
 fn put_padded(pen: &mut Pen<'_>, digits: u32, x: u64)
     ensures { Puts pen.old pen.new (padded digits x) }

@@ -5,7 +5,7 @@ use mathlib.Core.List.{List, [], ◌∷◌, ◌++◌}
 use Prim.Native.Nat.{ℕ, zero, suc, ◌+◌, ◌*◌, ◌-◌, ◌<◌, ◌≤◌}
 use native.Mathlib.Omega.{arith}
 use lib.Dec.{eqb}
-use lib.ListN.{length, get_or, take, drop, length-take}
+use lib.ListN.{length, take, drop}
 use lib.Pointwise.{pointwise}
 use lib.Seq.{take-suc, length-take-le}
 use Rattle.std.proofs.lemmas.List.{get_or-drop, length-drop}

@@ -11,7 +11,6 @@ use Rattle.bits.specs.Refused.{number_in}
 use Rattle.bits.specs.declared.refusal.Refusal.{Refusal}
 use Rattle.bits.proofs.Refused.{not_zero, number-same}
 use Rattle.bits.proofs.Unique.{same}
-use Rattle.text.specs.Page.{Page}
 use Rattle.text.specs.Entry.{Entered}
 use Rattle.text.specs.Pens.{on}
 use Rattle.text.specs.declared.pen.Pen.{Pen}

@@ -90,6 +90,7 @@ fn put_channel(pen: &mut Pen<'_>, k: u32, old: Option<[u8; 256]>, new: &[u8; 256
         return;
     }
     let first = 8 * c;
+    // a channel is below 32, and `put_turns` counts places
     put_label(pen, k, c as u8, &new[first..first + 8]);
 }
 

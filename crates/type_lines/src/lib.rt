@@ -11,6 +11,7 @@ use name_lines::put_head;
 use programme::Programme;
 use text::Pen;
 
+// Two lists of the 32 channels, each handed on whole: what was noted, and the group that may yet be told.
 #[derive(Clone, Copy)]
 pub struct Types {
     // the byte noted last for each channel; 1, which has odd parity, where none was
@@ -75,6 +76,7 @@ fn put_byte(pen: &mut Pen<'_>, k: u32, c: u8, old: u8, new: u8)
     }
 }
 
+// A channel is below 32, and `put_turns` counts places.
 fn put_bytes(pen: &mut Pen<'_>, k: u32, old: &[u8; 32], new: &[u8; 32])
     ensures { Puts pen.old pen.new (type_lines k old.now new.now) }
 {

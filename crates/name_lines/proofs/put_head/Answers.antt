@@ -1,6 +1,5 @@
 -- `name_lines::put_head` meets its contract. Assumes nothing.
 use mathlib.Core.Path.{ap}
-use mathlib.Core.List.{◌∷◌}
 use Prim.Native.Nat.{ℕ, ◌+◌, ◌/◌}
 use Rattle.bits.specs.Letters.{letters}
 use Rattle.text.proofs.Pens.{puts_as, puts_then}

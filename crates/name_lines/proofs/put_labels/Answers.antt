@@ -8,7 +8,7 @@ use Rattle.std.specs.declared.option.Option.{Option}
 use Rattle.std.specs.declared.option.Option.TheVariants.{Some, None}
 use Rattle.std.specs.declared.result.Result.TheVariants.{Err}
 use Rattle.name_lines.specs.declared.Labels.{Labels}
-use Rattle.name_lines.specs.Names.{label_text, noted_after, Labelling}
+use Rattle.name_lines.specs.Names.{label_text, noted_after}
 use Rattle.name_lines.proofs.put_labels.Goals as goal
 
 newest : (o : Labels) (labels : Option (List ℕ)) → record { noted = option_or labels o.noted } ≡ noted_after o labels

@@ -1,15 +1,13 @@
 -- `type_lines::held` meets its contract: what is behind the letters that are left are spaces. Assumes nothing.
-use Prim.Native.Nat.{ℕ, suc, ◌+◌, ◌≤◌}
+use Prim.Native.Nat.{ℕ, suc, ◌+◌}
 use mathlib.Core.Path.{◌≡◌, refl, sym, ap, ◌∙◌}
 use mathlib.Core.List.{List, [], ◌∷◌, ◌++◌}
-use native.Mathlib.Numerals.{add-one}
 use native.Mathlib.Omega.{arith}
 use borrow.Author.Tests.{eq-eqb, ne_eqb}
 use lib.ListN.{length, get_or, take, drop}
 use lib.Seq.{take-append_seam, get_or-append_seam}
 use Rattle.std.proofs.lemmas.List.{take-append-le, take-append-drop, get_or_append_left}
 use Rattle.type_lines.specs.Types.{held_to}
-use borrow.Author.Rules.{rules}
 use Rattle.type_lines.proofs.held.Goals as goal
 
 -- the letters l that are left of a name s, the last of them x and f those before it

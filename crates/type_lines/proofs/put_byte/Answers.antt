@@ -1,5 +1,5 @@
 -- `type_lines::put_byte` meets its contract. Assumes nothing.
-use mathlib.Core.Path.{sym, ap}
+use mathlib.Core.Path.{ap}
 use borrow.Author.Tests.{eq-eqb, ne_eqb}
 use Rattle.programme.specs.declared.Programme.{Programme}
 use Rattle.text.proofs.Pens.{puts_as, puts_none}

@@ -5,7 +5,7 @@ use borrow.Author.Rules.{rules}
 use Rattle.std.specs.declared.result.Result.TheVariants.{Err}
 use Rattle.text.specs.Pens.{on}
 use Rattle.text.specs.Entry.{entered_text}
-use Rattle.type_lines.specs.Types.{type_text, types_after, Typing}
+use Rattle.type_lines.specs.Types.{type_text, types_after}
 use Rattle.type_lines.proofs.put_types.Goals as goal
 
 pub returns-in_err-put_whole : goal.returns-in_err-put_whole
