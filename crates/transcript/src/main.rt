@@ -4,126 +4,81 @@
 // The radius is 2 or 3, and without it 2.
 #![tactic(auto)]
 
-use ending::Ended;
-use reel::HeaderRead;
-use std::io::{IsTerminal, Stdin, Stdout};
+use ending::Fault;
+use reel::Header;
+use std::io::{IsTerminal, Stderr, Stdout};
 use superframe::State;
+use text::Pen;
 
-#[derive(Clone, Copy)]
-struct Written {
-    next: State,
-    error: u32,
-}
-
-// Superframe k, and the state that the next one is taken with. Its lines have at most 18,616 characters (`superframe-whole` in transcript_text).
-fn write_superframe(to: Stdout, k: u32, radius: u8, state: State, bytes: &[u8; 5120]) -> Written {
-    let mut to = to;
+// Superframe k, from 1, and the state that the next one is taken with.
+fn write_superframe(
+    mut to: Stdout,
+    k: u32,
+    radius: u8,
+    state: State,
+    bytes: &[u8; 5120],
+) -> Result<State, Fault> {
     let mut samples = [0i16; 2048];
     let mut marks = [0u8; 2048];
     let taken = state.take(radius, bytes, &mut samples, &mut marks);
-    let next = taken.next;
     let mut out = [0u8; 20480];
-    let placed = transcript_text::put_superframe(&mut out, 0, k, taken, &samples, &marks);
-    Written {
-        next: next,
-        error: streams::write_first(&mut to, &out, placed.end),
+    let mut pen = Pen::new(&mut out, 0);
+    // its lines have at most 18,616 characters (`superframe-whole` in transcript_text)
+    let _ = transcript_text::put_superframe(&mut pen, k, taken, &samples, &marks);
+    let end = pen.to;
+    streams::write_first(&mut to, &out, end).map_err(Fault::NotWritten)?;
+    match taken {
+        Ok(taken) => Ok(taken.next),
+        Err(lost) => Ok(lost.next),
     }
 }
 
 // Where the text itself goes to a terminal, nothing else is shown there.
-fn show(rt: HostRuntime, k: u32, count: u32) {
-    if !rt.stdout().is_terminal() {
-        streams::show(rt.stderr(), k, count);
+fn watched(rt: HostRuntime) -> Option<Stderr> {
+    if rt.stdout().is_terminal() {
+        return None;
     }
+    Some(rt.stderr())
 }
 
-fn wipe(rt: HostRuntime, k: u32) {
-    if !rt.stdout().is_terminal() {
-        streams::wipe(rt.stderr(), k);
-    }
-}
-
-// How the superframes ended that were not all there: they ran out, or a read failed.
-fn stopped(error: u32) -> Ended {
-    if error != 0 {
-        return Ended::NotRead(error);
-    }
-    Ended::Short
-}
-
-// The superframes that come, at most as many as the header promises.
-fn write_superframes(rt: HostRuntime, from: Stdin, count: u32, radius: u8) -> Ended {
-    let mut from = from;
-    let mut state = State::fresh();
-    let mut k: u32 = 0;
-    while k < count {
-        let mut bytes = [0u8; 5120];
-        let filled = streams::fill(&mut from, &mut bytes);
-        if filled.n < 5120 {
-            wipe(rt, k);
-            return stopped(filled.error);
-        }
-        k += 1;
-        let written = write_superframe(rt.stdout(), k, radius, state, &bytes);
-        let error = written.error;
-        if error != 0 {
-            wipe(rt, k);
-            return Ended::NotWritten(error);
-        }
-        state = written.next;
-        show(rt, k, count);
-    }
-    wipe(rt, k);
-    Ended::Whole
+fn write_line(mut to: Stdout, line: &[u8]) -> Result<(), Fault> {
+    streams::write(&mut to, line).map_err(Fault::NotWritten)
 }
 
 // The last line, and how all of it ended.
-fn write_end(to: Stdout, line: &[u8], ended: Ended) -> Ended {
-    let mut to = to;
-    let error = streams::write(&mut to, line);
-    if error != 0 {
-        return Ended::NotWritten(error);
+fn write_end(to: Stdout, ended: Result<(), Fault>) -> Result<(), Fault> {
+    match ended {
+        Ok(()) => write_line(to, b"end ok\n")?,
+        Err(_) => write_line(to, b"end short\n")?,
     }
     ended
 }
 
-fn finish(to: Stdout, ended: Ended) -> Ended {
-    match ended {
-        Ended::Whole => write_end(to, b"end ok\n", ended),
-        Ended::Short => write_end(to, b"end short\n", ended),
-        _ => ended,
-    }
+fn write_reel(rt: HostRuntime, header: Header, radius: u8) -> Result<(), Fault> {
+    let mut state = State::fresh();
+    let came = input::read_all(
+        &mut rt.stdin(),
+        watched(rt),
+        header,
+        |k, superframe| -> Result<(), Fault> {
+            state = write_superframe(rt.stdout(), k + 1, radius, state, superframe)?;
+            Ok(())
+        },
+    )?;
+    write_end(
+        rt.stdout(),
+        ending::ending_of(header.count, u64::from(came)),
+    )
 }
 
-// With a count of 0 nothing more is read.
-fn write_reel(rt: HostRuntime, count: u32, offset: u32, radius: u8) -> Ended {
-    if count == 0 {
-        return finish(rt.stdout(), Ended::Whole);
-    }
-    let mut from = rt.stdin();
-    let error = input::skip_to(&mut from, offset);
-    if error != 0 {
-        return Ended::NotRead(error);
-    }
-    finish(rt.stdout(), write_superframes(rt, from, count, radius))
-}
-
-fn write(rt: HostRuntime) -> Ended {
-    let radius = input::radius_at(&rt, 2);
-    if radius == 0 {
-        return Ended::NoRadius;
-    }
-    let mut from = rt.stdin();
-    let start = input::header(&mut from);
-    let error = start.error;
-    if error != 0 {
-        return Ended::NotRead(error);
-    }
-    let fault = start.fault;
-    let header = start.header;
-    match header {
-        HeaderRead::Reel { count, offset } => write_reel(rt, count, offset, radius),
-        HeaderRead::NoHeader => write_end(rt.stdout(), b"refused 8\n", fault),
+fn write(rt: HostRuntime) -> Result<(), Fault> {
+    let radius = input::radius_at(&rt, 2).ok_or(Fault::NoRadius)?;
+    match input::header(&mut rt.stdin()).map_err(Fault::NotRead)? {
+        Ok(header) => write_reel(rt, header, radius),
+        Err(fault) => {
+            write_line(rt.stdout(), b"refused 8\n")?;
+            Err(fault)
+        }
     }
 }
 
