@@ -10,145 +10,98 @@ mod names; // names.rt: the lines of types and labels
 mod stretch; // stretch.rt: the sixteen label tracks
 mod finish; // finish.rt: what can be written only behind the last superframe
 
-use ending::Ended;
-use files::{Fault, Opened};
+use ending::Fault;
+use files::{FileFault, Opened};
 use going::Going;
-use reel::HeaderRead;
+use reel::Header;
+use streams::Progress;
+use text::Pen;
 
-// How it ended: with the files as they should be, or with a file that failed.
-#[derive(Clone, Copy)]
-struct Handed {
-    ended: Ended,
-    fault: Fault,
+// Why the files are not as they should be.
+#[derive(Clone, Copy, PartialEq, Eq, Debug)]
+enum NotHanded {
+    // the reel's fault
+    Reel(Fault),
+    File(FileFault),
 }
 
-fn failed(fault: Fault) -> Handed {
-    Handed {
-        ended: Ended::Whole,
-        fault,
+impl From<Fault> for NotHanded {
+    fn from(fault: Fault) -> NotHanded {
+        NotHanded::Reel(fault)
     }
 }
 
-fn ends(ended: Ended) -> Handed {
-    Handed {
-        ended,
-        fault: files::fine(),
+impl From<FileFault> for NotHanded {
+    fn from(fault: FileFault) -> NotHanded {
+        NotHanded::File(fault)
     }
 }
 
-#[derive(Clone, Copy)]
-struct Superframes {
-    going: Going,
-    // how many were read
-    done: u32,
-    // of a read that failed, else 0
-    error: u32,
-    fault: Fault,
+// The superframes that come, at most as many as the header promises, 64 at a time: how many there were.
+fn hand_rows(
+    rt: HostRuntime,
+    opened: &Opened,
+    going: &mut Going,
+    progress: &mut Progress,
+) -> Result<u32, NotHanded> {
+    let promised = progress.promised;
+    let mut first = 0;
+    while first < promised {
+        let until = promised.min(first.saturating_add(64));
+        let next = going.hand_row(rt, opened, progress, first..until)?;
+        if next < until {
+            return Ok(next);
+        }
+        first = until;
+    }
+    Ok(promised)
 }
 
-// The superframes that come, at most as many as the header promises.
-fn hand_superframes(rt: HostRuntime, opened: &Opened, count: u32, radius: u8) -> Superframes {
+fn hand_superframes(
+    rt: HostRuntime,
+    opened: &Opened,
+    going: &mut Going,
+    promised: u32,
+) -> Result<u32, NotHanded> {
+    let mut progress = Progress::new(Some(rt.stderr()), promised);
+    let handed = hand_rows(rt, opened, going, &mut progress);
+    progress.wipe();
+    handed
+}
+
+fn hand_reel(rt: HostRuntime, header: Header, radius: u8) -> Result<(), NotHanded> {
+    let opened = Opened::make_all(rt, header.count)?;
     let mut going = Going::none(radius);
-    let mut done: u32 = 0;
-    let mut error: u32 = 0;
-    let mut fault = files::fine();
-    while done < count {
-        let batch = going::hand_batch(rt, opened, going, done, count);
-        let n = batch.n;
-        going = batch.going;
-        error = batch.error;
-        fault = batch.fault;
-        done += n;
-        if n < 64 {
-            break;
-        }
-        if fault.error != 0 {
-            break;
-        }
-    }
-    streams::wipe(rt.stderr(), done);
-    Superframes {
-        going,
-        done,
-        error,
-        fault,
-    }
+    let done = hand_superframes(rt, &opened, &mut going, header.count)?;
+    finish::finish(rt, &opened, header, done, &going)?;
+    ending::ending_of(header.count, u64::from(done))?;
+    Ok(())
 }
 
-fn hand_reel(rt: HostRuntime, header: HeaderRead, count: u32, radius: u8) -> Handed {
-    let made = files::make_all(rt, count);
-    let missing = made.fault;
-    if missing.error != 0 {
-        return failed(missing);
-    }
-    let opened = made.opened;
-    let read = hand_superframes(rt, &opened, count, radius);
-    let fault = read.fault;
-    if fault.error != 0 {
-        return failed(fault);
-    }
-    let error = read.error;
-    if error != 0 {
-        return ends(Ended::NotRead(error));
-    }
-    let going = read.going;
-    let last = finish::finish(rt, &opened, header, count, read.done, going);
-    if last.error != 0 {
-        return failed(last);
-    }
-    ends(ending::ending_of(count, read.done as u64))
+fn hand(rt: HostRuntime) -> Result<(), NotHanded> {
+    let radius = input::radius_at(&rt, 4).ok_or(Fault::NoRadius)?;
+    let header = input::header(&mut rt.stdin()).map_err(Fault::NotRead)??;
+    input::reach(&mut rt.stdin(), header)?;
+    hand_reel(rt, header, radius)
 }
 
-// With a count of 0 nothing more is read.
-fn hand_from(rt: HostRuntime, header: HeaderRead, count: u32, offset: u32, radius: u8) -> Handed {
-    if count == 0 {
-        return hand_reel(rt, header, 0, radius);
-    }
-    let mut from = rt.stdin();
-    let error = input::skip_to(&mut from, offset);
-    if error != 0 {
-        return ends(Ended::NotRead(error));
-    }
-    hand_reel(rt, header, count, radius)
-}
-
-fn hand(rt: HostRuntime) -> Handed {
-    let radius = input::radius_at(&rt, 4);
-    if radius == 0 {
-        return ends(Ended::NoRadius);
-    }
-    let mut from = rt.stdin();
-    let start = input::header(&mut from);
-    let error = start.error;
-    if error != 0 {
-        return ends(Ended::NotRead(error));
-    }
-    let header = start.header;
-    let fault = start.fault;
-    match header {
-        HeaderRead::NoHeader => ends(fault),
-        HeaderRead::Reel { count, offset } => hand_from(rt, header, count, offset, radius),
-    }
-}
-
-// The name stands in the first bytes of a page.
-fn tell_first(rt: &HostRuntime, error: u32, page: &[u8], end: usize) {
-    if end <= page.len() {
-        ending::say_file(rt, error, &page[0..end]);
+fn tell_file(rt: &HostRuntime, fault: FileFault) {
+    let mut name = [0u8; 32];
+    let mut pen = Pen::new(&mut name, 0);
+    folder::put_name(&mut pen, fault.file);
+    let end = pen.to;
+    if let Some(letters) = name.get(..end) {
+        ending::say_file(rt, fault.error, letters);
     }
 }
 
 // The file that failed by its name, or how it ended.
-fn tell(rt: &HostRuntime, handed: Handed) {
-    let fault = handed.fault;
-    if fault.error == 0 {
-        let ended = handed.ended;
-        ending::say(rt, ended);
-        return;
+fn tell(rt: &HostRuntime, handed: Result<(), NotHanded>) {
+    match handed {
+        Ok(()) => ending::say(rt, Ok(())),
+        Err(NotHanded::Reel(fault)) => ending::say(rt, Err(fault)),
+        Err(NotHanded::File(fault)) => tell_file(rt, fault),
     }
-    let mut name = [0u8; 32];
-    let end = folder::put_name(&mut name, 0, fault.file);
-    tell_first(rt, fault.error, &name, end);
 }
 
 fn main(rt: HostRuntime) {

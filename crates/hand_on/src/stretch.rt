@@ -1,65 +1,55 @@
-// The label tracks of the sixteen programmes, each as its last step left it. Lines are rare, 50 superframes apart at least, and are written when
-// they come.
-use crate::files;
-use crate::files::{Fault, Opened};
-use stretches::{Open, Stepped};
+// The label tracks of the sixteen programmes. Lines are rare, 50 superframes apart at least, and are written when they come.
+use crate::files::{FileFault, Opened};
+use crate::pages::Sound;
+use label::Stretch;
+use text::Pen;
 
+// The stretch that is open in each.
 #[derive(Clone, Copy)]
 pub struct Tracks {
-    pub tracks: [Stepped; 16],
-    pub fault: Fault,
+    open: [Option<Stretch>; 16],
 }
 
-// Before the first superframe.
-pub fn none() -> [Stepped; 16] {
-    [Stepped {
-        last: Open::Nothing,
-        end: 0,
-    }; 16]
-}
-
-fn kinds_of(q: usize, lost: bool, marks: &[u8]) -> [u8; 64] {
-    if lost {
-        return kinds::lost();
+// What each pair of programme q, from 1, is in a superframe.
+fn kinds_of(q: usize, heard: Option<Sound<'_>>) -> [u8; 64] {
+    match heard {
+        Some(heard) => kinds::of_programme(q, heard.marks).unwrap_or([0; 64]),
+        None => kinds::lost(),
     }
-    let told = kinds::of_programme(q, marks);
-    told.kinds
 }
 
-// Superframe k, from 0.
-pub fn step(opened: &Opened, tracks: [Stepped; 16], k: u32, lost: bool, marks: &[u8]) -> Tracks {
-    let mut all = tracks;
-    let mut q: u8 = 0;
-    while q < 16 {
-        let mut lines = [0u8; 256];
-        let kinds = kinds_of(q as usize + 1, lost, marks);
-        let track = all[q as usize];
-        let last = track.last;
-        let stepped = stretches::step(&mut lines, 0, last, k, kinds);
-        let fault = files::write(opened, 32 + q, &lines, stepped.end);
-        if fault.error != 0 {
-            return Tracks { tracks: all, fault };
+impl Tracks {
+    // Before the first superframe.
+    pub fn none() -> Self {
+        Tracks { open: [None; 16] }
+    }
+
+    // Superframe k, from 0.
+    pub fn step(
+        &mut self,
+        opened: &Opened,
+        k: u32,
+        heard: Option<Sound<'_>>,
+    ) -> Result<(), FileFault> {
+        for q in 0..16 {
+            let mut lines = [0u8; 256];
+            let mut pen = Pen::new(&mut lines, 0);
+            self.open[q] = stretches::step(&mut pen, self.open[q], k, kinds_of(q + 1, heard));
+            let end = pen.to;
+            opened.write(32 + q as u8, &lines, end)?;
         }
-        all[q as usize] = stepped;
-        q += 1;
+        Ok(())
     }
-    let fault = files::fine();
-    Tracks { tracks: all, fault }
-}
 
-// Behind the last superframe.
-pub fn finish(opened: &Opened, tracks: [Stepped; 16]) -> Fault {
-    let mut q: u8 = 0;
-    while q < 16 {
-        let mut line = [0u8; 256];
-        let track = tracks[q as usize];
-        let last = track.last;
-        let end = stretches::finish(&mut line, 0, last);
-        let fault = files::write(opened, 32 + q, &line, end);
-        if fault.error != 0 {
-            return fault;
+    // Behind the last superframe.
+    pub fn finish(&self, opened: &Opened) -> Result<(), FileFault> {
+        for q in 0..16 {
+            let mut line = [0u8; 256];
+            let mut pen = Pen::new(&mut line, 0);
+            stretches::finish(&mut pen, self.open[q]);
+            let end = pen.to;
+            opened.write(32 + q as u8, &line, end)?;
         }
-        q += 1;
+        Ok(())
     }
-    files::fine()
 }

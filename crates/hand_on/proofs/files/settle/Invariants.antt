@@ -1,8 +1,0 @@
-use Rattle.std.proofs.Common.{◌≤◌, ◌-◌}
-use Rattle.hand_on.proofs.files.settle.Given as goal
-
-abbrev pub invariant-loop-file : goal.invariant-loop-file
-invariant-loop-file l = l.file ≤ 53
-
-abbrev pub decreases-loop-file : goal.decreases-loop-file
-decreases-loop-file l = 53 - l.file
