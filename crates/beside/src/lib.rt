@@ -10,7 +10,7 @@ use nearest::{Extra, Factors};
 // The extra bits of the 16 programmes as they read, in a list for each part: the state takes the factors whole, and the texts put each part as a row.
 #[derive(Clone, Copy)]
 pub struct Programmes {
-    // 0; 5: two or more scale words are equally near
+    // document 01's number for each programme, which is handed out: 0; 5: two or more scale words are equally near
     pub numbers: [u8; 16],
     // of the 32 channels, for the superframe after the next; 8: missing
     pub factors: [u8; 32],

@@ -48,6 +48,7 @@ fn put_labels(pen: &mut Pen<'_>, labels: Option<[u8; 256]>)
     }
 }
 
+// The number is one of `Programmes`, which has 0 for a word that was read.
 fn put_pair(pen: &mut Pen<'_>, number: u8, factors: &[u8])
     ensures { Puts pen.old pen.new (pair_text number factors.now) }
 {
@@ -92,6 +93,7 @@ fn put_far(pen: &mut Pen<'_>, numbers: [u8; 16], places: [u8; 16])
     );
 }
 
+// Of the three lower bytes each is cut out and narrowed: a word has 22 bits in 32.
 fn put_word(pen: &mut Pen<'_>, word: u32)
     ensures { Puts pen.old pen.new (next_hex (digits 256 3 word)) }
 {

@@ -31,7 +31,7 @@ fn in_range(codes: [i16; 4], extra: [u8; 2]) -> bool
     are_codes(codes) && bits::are_bits(&extra)
 }
 
-// Bit k of the 14 bits of a code, the highest first.
+// Bit k of the 14 bits of a code, the highest first: one binary digit, which fits a byte.
 fn code_bit(code: i16, k: usize) -> u8
     requires { k < 14 }
     ensures { result ≡ get_or (code_bits code) k 0 }
@@ -54,14 +54,8 @@ fn sound_of(codes: [i16; 4]) -> [u8; 44]
     std::array::from_fn(|j| sound_bit(&codes, j))
 }
 
-// Bit j of the whole block: 44 sound bits, 19 check bits, 12 sound bits, 2 extra bits.
-fn bit_of(
-    protected: &[u8; 44],
-    check: u32,
-    codes: &[i16; 4],
-    extra: &[u8; 2],
-    j: usize,
-) -> u8
+// Bit j of the whole block: 44 sound bits, 19 check bits, 12 sound bits, 2 extra bits. What stands there differs from part to part, so each part has its line.
+fn bit_of(protected: &[u8; 44], check: u32, codes: &[i16; 4], extra: &[u8; 2], j: usize) -> u8
     requires at { j < 77 }
     requires sound_bits { protected.now ≡ sound codes.now }
     requires check_bits { check ≡ value 2 (check_bits block_generator protected.now) }

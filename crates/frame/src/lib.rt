@@ -68,7 +68,7 @@ fn service_of(letter: Letter, bytes: &[u8]) -> u8
     carried(letter, bits::bit_of(bytes, 11))
 }
 
-// The eight bits from bit `over` of byte `at` on.
+// The eight bits from bit `over` of byte `at` on. They are the rest by 256, which fits a byte.
 fn eight_from(bytes: &[u8], at: usize, over: u16) -> u8
     requires { (at + 1 < length bytes.now) × (over < 8) }
     ensures { (q : ℕ) → q < 8 → result / 2 ^ (7 - q) % 2 ≡ bit_at bytes.now (8 * at + over + q) }

@@ -15,7 +15,11 @@ fn bit_between(lower: &[u8; 77], higher: &[u8; 77], k: usize) -> u8
     requires { k < 154 }
     ensures { result ≡ get_or (interleave lower.now higher.now) k 0 }
 {
-    if k % 2 == 0 { lower[k / 2] } else { higher[k / 2] }
+    if k % 2 == 0 {
+        lower[k / 2]
+    } else {
+        higher[k / 2]
+    }
 }
 
 fn interleaved(lower: [u8; 77], higher: [u8; 77]) -> [u8; 154]
@@ -24,14 +28,8 @@ fn interleaved(lower: [u8; 77], higher: [u8; 77]) -> [u8; 154]
     std::array::from_fn(|k| bit_between(&lower, &higher, k))
 }
 
-// Bit k of the 320, of the service bit as it is sent and two interleaved pairs.
-fn bit_of(
-    sync: &[u8; 11],
-    service: u8,
-    front: &[u8; 154],
-    back: &[u8; 154],
-    k: usize,
-) -> u8
+// Bit k of the 320, of the service bit as it is sent and two interleaved pairs. The parts are of other lengths and one is a single bit, so each has its line.
+fn bit_of(sync: &[u8; 11], service: u8, front: &[u8; 154], back: &[u8; 154], k: usize) -> u8
     requires { k < 320 }
     ensures { result ≡ get_or (sync.now ++ (service ∷ (front.now ++ back.now))) k 0 }
 {

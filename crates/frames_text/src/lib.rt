@@ -27,6 +27,7 @@ fn put_samples(pen: &mut Pen<'_>, f: usize, samples: &[i16])
     pen.put(b'\n');
 }
 
+// The lengths are required, here and in `transcript_text`: arrays of 2,048 would be two conversions that can fail in place of two comparisons.
 fn put_frame(pen: &mut Pen<'_>, n: usize, samples: &[i16], marks: &[u8])
     requires { (length samples.now ≡ 2048) × (length marks.now ≡ 2048) × (n < 64) }
     ensures { Puts pen.old pen.new (frame_text samples.now marks.now n) }
@@ -37,7 +38,8 @@ fn put_frame(pen: &mut Pen<'_>, n: usize, samples: &[i16], marks: &[u8])
     put_samples(pen, n + 1, &samples[a..e]);
 }
 
-// Of other lengths than 2,048 no line is put, and the pen's place is then past the end of every buffer, as for a text that does not fit.
+// Of other lengths than 2,048 no line is put, and the pen's place is then past the end of every buffer, as for a text that does not fit: nothing is
+// refused here (`frames_put`).
 pub fn put_frames(pen: &mut Pen<'_>, samples: &[i16], marks: &[u8])
     ensures same_buffer { pen.new.out.ghost_name ≡ pen.old.out.ghost_name }
     ensures told { on pen.new ≡ frames_put (on pen.old) samples.now marks.now }

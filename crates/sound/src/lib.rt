@@ -30,7 +30,7 @@ fn marked(mark: u8, factor: u8) -> u8
     if 7 < factor { 3 } else { mark }
 }
 
-// Block n, frame number by frame number: four samples and four marks, and the block's own mark.
+// Block n, frame number by frame number: four samples and four marks, and the block's own mark. n is less than 512, so that its frame number and its position fit a byte.
 fn four(
     reader: &Reader,
     radius: u8,

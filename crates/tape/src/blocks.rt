@@ -56,7 +56,7 @@ pub fn read_at(reader: &Reader, radius: u8, sf: &[u8], f: u8, p: u8) -> Result<T
     Ok(quad_at(reader, radius, sf, f, p))
 }
 
-// The marks of all blocks at the ordinary radius, frame number by frame number.
+// The marks of all blocks at the ordinary radius, frame number by frame number. n is less than 512, so that its frame number and its position fit a byte.
 fn marks_by(reader: &Reader, sf: &[u8]) -> [u8; 512]
     requires sf_len { length sf.now ≡ 5120 }
     requires tables { reader.now ≡ true_reader }
@@ -78,7 +78,7 @@ fn all_marks(sf: &[u8]) -> [u8; 512]
     marks_by(&reader, sf)
 }
 
-// What a block with a mark counts as: 0 clean, 1 mended, 2 bad. Mark 4 counts as mended.
+// What a block with a mark counts as: 0 clean, 1 mended, 2 bad. Mark 4 counts as mended. Marks are document 01's numbers, as they lie in the lent list.
 fn kind_of(mark: u8) -> u8
     ensures { result ≡ counted_as mark }
 {

@@ -1,4 +1,5 @@
 // The text of running totals (document 02, P7; docs/HAND-ON.md, "totals.txt"), put by a pen. Programmes count from 0 here, and from 1 in the text.
+// Numbers are widened by `as`: what `From` hands is known by an equation alone, which each proof would have to carry on.
 #![tactic(auto)]
 
 ghost use Rattle.std.specs.Prelude.{◌<◌};

@@ -1,4 +1,5 @@
 // The text of a transcript (docs/TRANSCRIPT.md): the lines of a superframe, put by a pen.
+// Numbers are widened by `as`: what `From` hands is known by an equation alone, which each proof would have to carry on.
 #![tactic(auto)]
 
 ghost use Rattle.std.specs.Prelude.{◌≡◌, length};
