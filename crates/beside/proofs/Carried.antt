@@ -3,6 +3,7 @@
 --     block-bit             a bit of the block in a position, where it stands in its main frame
 --     extra-there           an extra bit of a programme, the same
 --     service-there         a service bit, the same
+--     left_there, right_there   the factors of a programme's two channels
 --     byte-there, six-there     a byte of the first 48 service bits; all six
 --     programmes-given, six-given     of a superframe's length nothing is refused
 -- Assumes nothing.
@@ -22,7 +23,7 @@ use Rattle.frame.specs.Frame.{service_in, place_of, deinterleave}
 use Rattle.frame.specs.Read.{service_read, block_of}
 use Rattle.bits.proofs.Bits.{bits_of-at}
 use Rattle.tape.specs.Tape.{frame_at, block_in}
-use Rattle.beside.specs.Beside.{extra_bit, programmes_of, programmes_answer, service_bit, six_of, six_and_sync, six_answer}
+use Rattle.beside.specs.Beside.{extra_bit, extra_of, factor_or, factor_read, programmes_of, programmes_answer, service_bit, six_of, six_and_sync, six_answer}
 use Rattle.tape.proofs.Tape.{block-there}
 
 pub frame-bit : (sf : List ℕ) (f k : ℕ) → k < 320 → bit_at sf (320 * f + k) ≡ bit_at (frame_at sf f) k
@@ -48,6 +49,22 @@ extra-there sf q f =
 pub service-there : (sf : List ℕ) (f : ℕ) → bit_at sf (320 * f + 11) ≡ service_bit sf f
 unfolding service_bit service_read service_in
 service-there sf f = frame-bit sf f 11 (omega arith)
+
+-- ---- factors
+module _ (sf : List ℕ) (q : ℕ) where
+  pub left_there : factor_or (extra_of sf q).factors 0 ≡ factor_read sf (2 * q)
+  unfolding factor_read
+  left_there =
+      let programme : 2 * q / 2 ≡ q = omega arith in
+      let side : 2 * q % 2 ≡ 0 = omega arith in
+      rw (programme, side)
+
+  pub right_there : factor_or (extra_of sf q).factors 1 ≡ factor_read sf (2 * q + 1)
+  unfolding factor_read
+  right_there =
+      let programme : (2 * q + 1) / 2 ≡ q = omega arith in
+      let side : (2 * q + 1) % 2 ≡ 1 = omega arith in
+      rw (programme, side)
 
 -- ---- service bytes
 pub byte-there : (bits : List ℕ) (i : ℕ) → i < 6 → byte_at bits (8 * i) ≡ byte_at (take 48 bits) (8 * i)
