@@ -2,7 +2,8 @@
 --     empty-run                       no bytes are a run, which has no first superframe
 --     run-lengths, run-of-length      a run is a whole number of superframes, at most 1,000,000; and every such length is a run's
 --     run-counted                     what counting says of the bytes
---     part-inside, part-before, part-behind, part-refused    the way to each number of a part
+--     part-inside, part-before, part-behind, part-no-run    the way to each number of a part
+--     part-refused                    what counting is refused for, asking is refused for
 --     part-there                      number 0 says that there is a run, and that it has this superframe
 --     length-superframe               a superframe of a run has 5,120 bytes
 --     first_of run n                   the first n superframes, one behind the other
@@ -69,12 +70,16 @@ module _ (run : List ℕ) (k : ℕ) where
   unfolding part_number
   part-behind e h l = rw (e, le-leb 1 k h, lt-leb k (count_of run) l)
 
+  pub part-no-run : is_run run ≡ false → 1 ≡ part_number run k
+  unfolding part_number
+  part-no-run e = rw e
+
   -- what counting is refused for, asking is refused for
   pub part-refused : (r : Refusal) → refused (number_of r) ≡ run_of run → number_of r ≡ part_number run k
-  unfolding run_of part_number
+  unfolding run_of
   part-refused r e =
       let number : number_of r ≡ (run_of run).number = ap (λ (a : Answer ℕ). a.number) e in
-      either_way (is_run run) (λ t. absurd (not_zero r (number ∙ rw t refl))) (λ t. number ∙ rw t refl)
+      either_way (is_run run) (λ t. absurd (not_zero r (number ∙ rw t refl))) (λ t. number ∙ rw t refl ∙ part-no-run t)
 
   pub part-there : part_number run k ≡ 0 → (is_run run ≡ true) × (1 ≤ k) × (k ≤ count_of run)
   unfolding part_number
