@@ -17,12 +17,7 @@ use bits::Refusal;
 fn are_codes(codes: [i16; 4]) -> bool
     ensures { result ≡ every is_code codes }
 {
-    for &code in &codes {
-        if !sample::is_code(code) {
-            return false;
-        }
-    }
-    true
+    codes.iter().all(|&code| sample::is_code(code))
 }
 
 fn in_range(codes: [i16; 4], extra: [u8; 2]) -> bool
