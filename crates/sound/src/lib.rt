@@ -34,13 +34,13 @@ fn marked(mark: u8, factor: u8) -> u8
 fn four(
     reader: &Reader,
     radius: u8,
-    sf: &[u8],
+    sf: &[u8; 5120],
     n: usize,
     factors: &[u8; 32],
     samples: &mut [i16],
     marks: &mut [u8],
 ) -> u8
-    requires sf_len { (length sf.now ≡ 5120) × (n < 512) }
+    requires there { n < 512 }
     requires samples_len { length samples.old ≡ 4 }
     requires marks_len { length marks.old ≡ 4 }
     requires tables { reader.now ≡ true_reader }
@@ -63,12 +63,11 @@ fn four(
 fn fill_by(
     reader: &Reader,
     radius: u8,
-    sf: &[u8],
+    sf: &[u8; 5120],
     factors: &[u8; 32],
     samples: &mut [i16],
     marks: &mut [u8],
 ) -> [u8; 512]
-    requires sf_len { length sf.now ≡ 5120 }
     requires samples_len { length samples.old ≡ 2048 }
     requires marks_len { length marks.old ≡ 2048 }
     requires tables { reader.now ≡ true_reader }
@@ -98,12 +97,11 @@ fn fill_by(
 // The same, with the reader made.
 fn fill_all(
     radius: u8,
-    sf: &[u8],
+    sf: &[u8; 5120],
     factors: &[u8; 32],
     samples: &mut [i16],
     marks: &mut [u8],
 ) -> [u8; 512]
-    requires sf_len { length sf.now ≡ 5120 }
     requires samples_len { length samples.old ≡ 2048 }
     requires marks_len { length marks.old ≡ 2048 }
     requires radius_value { is_radius radius ≡ true }
@@ -133,6 +131,9 @@ pub fn fill(
 ) -> Result<Counted, Refusal>
     ensures { Filled radius bytes.now factors.now samples.old marks.old result samples.new marks.new }
 {
+    let Some(sf) = bytes.as_array::<5120>() else {
+        return Err(Refusal::Length);
+    };
     if !lengths_fit(bytes.len(), samples.len(), marks.len()) {
         return Err(Refusal::Length);
     }
@@ -140,6 +141,6 @@ pub fn fill(
         return Err(Refusal::Range);
     }
     let wrong = tape::syncs(bytes)?;
-    let read = fill_all(radius, bytes, factors, samples, marks);
+    let read = fill_all(radius, sf, factors, samples, marks);
     tape::gathered(wrong, read)
 }

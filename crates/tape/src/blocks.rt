@@ -1,5 +1,5 @@
 // The 512 blocks of a superframe, read at a radius by the tables (document 02, P3 and P9) and counted, from its bytes alone.
-ghost use Rattle.std.specs.Prelude.{◌≡◌, ◌<◌, eqb, length};
+ghost use Rattle.std.specs.Prelude.{◌≡◌, ◌<◌, eqb};
 ghost use Rattle.bits.specs.Table.{tabulate};
 ghost use Rattle.reading.specs.Reading.{ordinary};
 ghost use Rattle.block.specs.Mark.{counted_as};
@@ -26,8 +26,8 @@ pub struct Counted {
 }
 
 // The block in position p of frame number f.
-fn block_at(sf: &[u8], f: u8, p: u8) -> [u8; 77]
-    requires { (length sf.now ≡ 5120) × (f < 64) × (p < 8) }
+fn block_at(sf: &[u8; 5120], f: u8, p: u8) -> [u8; 77]
+    requires { (f < 64) × (p < 8) }
     ensures { result ≡ block_in sf.now f p }
 {
     let frame = u16::from(f) + 64 * u16::from(p / 4);
@@ -35,8 +35,8 @@ fn block_at(sf: &[u8], f: u8, p: u8) -> [u8; 77]
 }
 
 // The same block as it is read.
-fn quad_at(reader: &Reader, radius: u8, sf: &[u8], f: u8, p: u8) -> Told
-    requires { (length sf.now ≡ 5120) × (f < 64) × (p < 8) }
+fn quad_at(reader: &Reader, radius: u8, sf: &[u8; 5120], f: u8, p: u8) -> Told
+    requires { (f < 64) × (p < 8) }
     ensures { result ≡ told_in reader.now radius (block_in sf.now f p) }
 {
     reader.read(radius, block_at(sf, f, p))
@@ -47,9 +47,9 @@ fn quad_at(reader: &Reader, radius: u8, sf: &[u8], f: u8, p: u8) -> Told
 pub fn read_at(reader: &Reader, radius: u8, sf: &[u8], f: u8, p: u8) -> Result<Told, Refusal>
     ensures { result ≡ quad_with reader.now radius sf.now f p }
 {
-    if sf.len() != 5120 {
+    let Some(sf) = sf.as_array::<5120>() else {
         return Err(Refusal::Length);
-    }
+    };
     if !reading::is_radius(radius) || 64 <= f || 8 <= p {
         return Err(Refusal::Range);
     }
@@ -57,9 +57,8 @@ pub fn read_at(reader: &Reader, radius: u8, sf: &[u8], f: u8, p: u8) -> Result<T
 }
 
 // The marks of all blocks at the ordinary radius, frame number by frame number. n is less than 512, so that its frame number and its position fit a byte.
-fn marks_by(reader: &Reader, sf: &[u8]) -> [u8; 512]
-    requires sf_len { length sf.now ≡ 5120 }
-    requires tables { reader.now ≡ true_reader }
+fn marks_by(reader: &Reader, sf: &[u8; 5120]) -> [u8; 512]
+    requires { reader.now ≡ true_reader }
     ensures { result ≡ tabulate 512 (in_eights (block_mark ordinary sf.now)) }
 {
     let mut out = [0u8; 512];
@@ -70,8 +69,7 @@ fn marks_by(reader: &Reader, sf: &[u8]) -> [u8; 512]
     out
 }
 
-fn all_marks(sf: &[u8]) -> [u8; 512]
-    requires { length sf.now ≡ 5120 }
+fn all_marks(sf: &[u8; 5120]) -> [u8; 512]
     ensures { result ≡ tabulate 512 (in_eights (block_mark ordinary sf.now)) }
 {
     let reader = Reader::new();
@@ -131,6 +129,9 @@ pub fn gathered(wrong: u16, marks: [u8; 512]) -> Result<Counted, Refusal>
 pub fn counts(bytes: &[u8]) -> Result<Counted, Refusal>
     ensures { result ≡ counts_of bytes.now }
 {
-    let wrong = frames::syncs(bytes)?;
-    gathered(wrong, all_marks(bytes))
+    let Some(sf) = bytes.as_array::<5120>() else {
+        return Err(Refusal::Length);
+    };
+    let wrong = frames::syncs(sf)?;
+    gathered(wrong, all_marks(sf))
 }

@@ -67,7 +67,7 @@ pub unwrap-block-requires : goal.unwrap-block-requires
 unwrap-block-requires c =
     let a = c.args in
     let r = c.requires in
-    rw (c.read_at.ensures, there a.reader.now r.tables a.radius r.radius_value a.sf.now a.n r.sf_len) (search rules)
+    rw (c.read_at.ensures, there a.reader.now r.tables a.radius r.radius_value a.sf.now a.n (search rules, r.there)) (search rules)
 
 pub loop-j-init : goal.loop-j-init
 loop-j-init c = (search rules, filled_zero _ _, filled_zero _ _)
@@ -76,7 +76,7 @@ pub sound_of-requires : goal.sound_of-requires
 sound_of-requires c =
     let a = c.args in
     let r = c.requires in
-    inside a.reader.now r.tables a.radius r.radius_value a.sf.now a.n r.sf_len c.unwrap-block.result (sym c.read_at.ensures ∙ c.unwrap-block.ensures) c.loop-j.j (omega arith) (omega arith)
+    inside a.reader.now r.tables a.radius r.radius_value a.sf.now a.n (search rules, r.there) c.unwrap-block.result (sym c.read_at.ensures ∙ c.unwrap-block.ensures) c.loop-j.j (omega arith) (omega arith)
 
 pub loop-j-preserved : goal.loop-j-preserved
 loop-j-preserved c =
@@ -85,10 +85,10 @@ loop-j-preserved c =
     let j = c.loop-j.j in
     let sample : c.sound_of.result ≡ in_rows (sample_at a.radius a.sf.now a.factors.now) (4 * a.n + j) =
     c.sound_of.ensures
-    ∙ heard a.reader.now r.tables a.radius r.radius_value a.sf.now a.n r.sf_len c.unwrap-block.result (sym c.read_at.ensures ∙ c.unwrap-block.ensures) a.factors.now j (omega arith) (omega arith) in
+    ∙ heard a.reader.now r.tables a.radius r.radius_value a.sf.now a.n (search rules, r.there) c.unwrap-block.result (sym c.read_at.ensures ∙ c.unwrap-block.ensures) a.factors.now j (omega arith) (omega arith) in
     let mark : c.marked.result ≡ in_rows (mark_at a.radius a.sf.now a.factors.now) (4 * a.n + j) =
     c.marked.ensures
-    ∙ said a.reader.now r.tables a.radius r.radius_value a.sf.now a.n r.sf_len c.unwrap-block.result (sym c.read_at.ensures ∙ c.unwrap-block.ensures) a.factors.now j (omega arith) in (
+    ∙ said a.reader.now r.tables a.radius r.radius_value a.sf.now a.n (search rules, r.there) c.unwrap-block.result (sym c.read_at.ensures ∙ c.unwrap-block.ensures) a.factors.now j (omega arith) in (
       search rules,
       rw (to_z-of_z w16 c.sound_of.result (record { sfits = c.sound_of.type_inv }), sample, c.loop-j.invariant.1, add-one)
           (filled-set (λ j. in_rows (sample_at a.radius a.sf.now a.factors.now) (4 * a.n + j)) j a.samples.now (omega arith)),
@@ -102,7 +102,7 @@ returns c =
     let r = c.requires in
     let e : c.loop-j.j ≡ 4 = omega arith in
     record {
-      value = mark_is a.reader.now r.tables a.radius r.radius_value a.sf.now a.n r.sf_len c.unwrap-block.result (sym c.read_at.ensures ∙ c.unwrap-block.ensures);
+      value = mark_is a.reader.now r.tables a.radius r.radius_value a.sf.now a.n (search rules, r.there) c.unwrap-block.result (sym c.read_at.ensures ∙ c.unwrap-block.ensures);
       samples_after = c.loop-j.invariant.1 ∙ rw e (filled-all _ 4 a.samples.now r.samples_len);
       marks_after = c.loop-j.invariant.2 ∙ rw e (filled-all _ 4 a.marks.now r.marks_len);
     }

@@ -22,7 +22,7 @@ unwrap-requires c =
     let a = c.args in
     rw (
       c.block_of.ensures,
-      there a.sf.now a.f a.p c.requires.0 (omega arith) (omega arith) _ _ _ _ c.frame_at.ensures c.from.ensures c.from-2.ensures c.from-3.ensures,
+      there a.sf.now a.f a.p (search rules) (omega arith) (omega arith) _ _ _ _ c.frame_at.ensures c.from.ensures c.from-2.ensures c.from-3.ensures,
     )
     (search rules)
 
@@ -31,4 +31,4 @@ returns c =
     let a = c.args in
     ok_same
     (sym c.unwrap.ensures ∙ c.block_of.ensures
-    ∙ there a.sf.now a.f a.p c.requires.0 (omega arith) (omega arith) _ _ _ _ c.frame_at.ensures c.from.ensures c.from-2.ensures c.from-3.ensures)
+    ∙ there a.sf.now a.f a.p (search rules) (omega arith) (omega arith) _ _ _ _ c.frame_at.ensures c.from.ensures c.from-2.ensures c.from-3.ensures)

@@ -24,7 +24,7 @@ pub loop-n-preserved : goal.loop-n-preserved
 loop-n-preserved c =
     let l = c.loop-n in
     let sf = c.args.sf.now in
-    let mark = ap (λ (t : Told). t.mark) (c.quad_at-block.ensures ∙ quad-true _ c.requires.tables ordinary chosen sf (l.n / 8) (l.n % 8)) ∙ quad-mark ordinary sf (l.n / 8) (l.n % 8) (omega arith) (omega arith) in
+    let mark = ap (λ (t : Told). t.mark) (c.quad_at-block.ensures ∙ quad-true _ c.requires ordinary chosen sf (l.n / 8) (l.n % 8)) ∙ quad-mark ordinary sf (l.n / 8) (l.n % 8) (omega arith) (omega arith) in
     (search rules, search rules, tab-more (in_eights (block_mark ordinary sf)) l.out l.n _ (omega arith) l.invariant.2 mark)
 
 pub returns : goal.returns
