@@ -1,5 +1,4 @@
 // The text of a transcript (docs/TRANSCRIPT.md): the lines of a superframe, put by a pen.
-// Numbers are widened by `as`: what `From` hands is known by an equation alone, which each proof would have to carry on.
 #![tactic(auto)]
 
 ghost use Rattle.std.specs.Prelude.{◌≡◌, length};
@@ -16,9 +15,9 @@ fn put_head(pen: &mut Pen<'_>, k: u32, number: u8)
     ensures { Puts pen.old pen.new (head_line k number) }
 {
     pen.put_all(b"superframe");
-    pen.put_next(k as u64);
+    pen.put_next(u64::from(k));
     pen.put_all(b" number");
-    pen.put_next(number as u64);
+    pen.put_next(u64::from(number));
     pen.put(b'\n');
 }
 
@@ -38,7 +37,7 @@ fn put_wrong(pen: &mut Pen<'_>, wrong: u16)
     ensures { Puts pen.old pen.new (sync_line wrong) }
 {
     pen.put_all(b"sync");
-    pen.put_next(wrong as u64);
+    pen.put_next(u64::from(wrong));
     pen.put(b'\n');
 }
 
