@@ -2,10 +2,9 @@
 // and its theorems speak of lists of numbers.
 #![tactic(auto)]
 
-ghost use Rattle.std.specs.Prelude.{◌≡◌, ◌≤◌, length};
+ghost use Rattle.std.specs.Prelude.{◌≡◌};
 ghost use Rattle.bits.specs.Refused.{told};
-ghost use Rattle.bits.specs.Table.{tabulate};
-ghost use Rattle.kinds.specs.Kinds.{troubling, kind_of, pair_kind, kinds_of, lost_kinds};
+ghost use Rattle.kinds.specs.Kinds.{troubling, kind_of, kinds_of, lost_kinds};
 
 use bits::Refusal;
 
@@ -25,16 +24,6 @@ fn kind_of(a: u8, b: u8) -> u8
     u8::from(troubles(a) || troubles(b))
 }
 
-fn each_kind(q: usize, marks: &[u8]) -> [u8; 64]
-    requires { (1 ≤ q) × (q ≤ 16) × (length marks.now ≡ 2048) }
-    ensures { result ≡ tabulate 64 (pair_kind q marks.now) }
-{
-    std::array::from_fn(|f| {
-        let at = 32 * f + 2 * (q - 1);
-        kind_of(marks[at], marks[at + 1])
-    })
-}
-
 // Of a lost superframe.
 pub fn lost() -> [u8; 64]
     ensures { result ≡ lost_kinds }
@@ -47,5 +36,8 @@ pub fn of_programme(q: usize, marks: &[u8]) -> Result<[u8; 64], Refusal>
     ensures { told (λ kinds. kinds) result ≡ kinds_of q marks.now }
 {
     wav_sound::number_of(q, marks.len())?;
-    Ok(each_kind(q, marks))
+    Ok(std::array::from_fn(|f| {
+        let at = 32 * f + 2 * (q - 1);
+        kind_of(marks[at], marks[at + 1])
+    }))
 }

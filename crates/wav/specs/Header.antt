@@ -7,10 +7,15 @@
 --     header b n            the header of a file of n pairs
 --     refused_as k p         number k: the page is as it was given
 --     entered_header p b n   what putting a header answers and leaves; number 2 for samples of no byte or of more than two
-use Rattle.std.specs.Prelude.{ℕ, zero, suc, ◌+◌, ◌*◌, ◌/◌, ◌%◌, min, cond, ◌&&◌, List, [], ◌∷◌, ◌++◌, leb}
+--     PutsAs old new r e     a call that had the pen as `old`, left it as `new` and answered r gave and left what e says: the pen is on the same buffer
+use Rattle.std.specs.Prelude.{◌≡◌, ℕ, zero, suc, ◌+◌, ◌*◌, ◌/◌, ◌%◌, min, cond, ◌&&◌, List, [], ◌∷◌, ◌++◌, leb}
 use Rattle.bits.specs.Letters.{letters}
+use Rattle.std.specs.declared.result.Result.{Result}
+use Rattle.bits.specs.declared.refusal.Refusal.{Refusal}
 use Rattle.text.specs.Page.{Page}
-use Rattle.text.specs.Entry.{Entered, entered_text}
+use Rattle.text.specs.Pens.{on}
+use Rattle.text.specs.declared.pen.Pen.{Pen}
+use Rattle.text.specs.Entry.{Entered, entered, entered_text}
 
 unfoldable pub little : ℕ → ℕ → List ℕ
 little zero x = []
@@ -50,3 +55,7 @@ refused_as k p = record { number = k; page = p }
 
 unfoldable pub entered_header : Page → ℕ → ℕ → Entered
 entered_header p b n = cond (leb 1 b && leb b 2) (entered_text p (header b n)) (refused_as 2 p)
+
+pub record PutsAs (old new : Pen) (r : Result (Unit {0}) Refusal) (e : Entered) : Type 0 where
+  pub same_buffer : new.out.ghost_name ≡ old.out.ghost_name
+  pub told : entered r (on new) ≡ e

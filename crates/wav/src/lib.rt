@@ -4,8 +4,7 @@
 
 ghost use Rattle.std.specs.Prelude.{◌≡◌, ◌*◌, ◌≤◌};
 ghost use Rattle.text.specs.Pens.{on, Puts};
-ghost use Rattle.text.specs.Entry.{entered};
-ghost use Rattle.wav.specs.Header.{capped, format, header, entered_header};
+ghost use Rattle.wav.specs.Header.{capped, format, header, entered_header, PutsAs};
 
 use bits::Refusal;
 use text::Pen;
@@ -47,8 +46,7 @@ fn put_fields(pen: &mut Pen<'_>, bytes: u16, pairs: u64)
 // The header of a file of so many pairs, its samples of one byte or of two each.
 #[tactic(auto, unfolding(crate::specs::Header::entered_header, crate::specs::Header::refused_as))]
 pub fn put_header(pen: &mut Pen<'_>, bytes: u16, pairs: u64) -> Result<(), Refusal>
-    ensures same_buffer { pen.new.out.ghost_name ≡ pen.old.out.ghost_name }
-    ensures told { entered result (on pen.new) ≡ entered_header (on pen.old) bytes pairs }
+    ensures { PutsAs pen.old pen.new result (entered_header (on pen.old) bytes pairs) }
 {
     if bytes < 1 || 2 < bytes {
         return Err(Refusal::Range);

@@ -1,7 +1,10 @@
--- `wav::put_header` meets its contract: its pen stays on its buffer. Assumes nothing.
+-- `wav::put_header` meets its contract. Assumes nothing.
 use borrow.Author.Rules.{rules}
-use Rattle.wav.specs.Header.{header}
+use Rattle.wav.specs.Header.{header, entered_header}
 use Rattle.wav.proofs.put_header.Goals as goal
 
-pub returns-clause-same_buffer : goal.returns-clause-same_buffer
-returns-clause-same_buffer c = (c.put_whole.ensures (header c.args.bytes c.args.pairs) (search rules)).same_buffer
+pub returns : goal.returns
+unfolding entered_header
+returns c =
+    let whole = c.put_whole.ensures (header c.args.bytes c.args.pairs) (search rules) in
+    record { same_buffer = whole.same_buffer; told = search rules }
