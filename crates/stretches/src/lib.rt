@@ -2,10 +2,10 @@
 #![tactic(auto)]
 
 ghost use Rattle.std.specs.Prelude.{◌≡◌, ◌+◌, ◌*◌, ◌<◌, ltb, take, drop};
-ghost use Rattle.text.specs.Pens.{on, Puts};
+ghost use Rattle.text.specs.Pens.{Puts};
 ghost use Rattle.stretches.specs.Stretches.{rest, counted, fresh, grow, met, opened};
 ghost use Rattle.label.specs.Lines.{lines};
-ghost use Rattle.stretches.specs.Step.{Step};
+ghost use Rattle.stretches.specs.Step.{PutsStep};
 
 use label::Stretch;
 use text::Pen;
@@ -74,8 +74,7 @@ fn meet(pen: &mut Pen<'_>, last: Option<Stretch>, n: u64, kind: u8) -> Option<St
 // The 64 pairs of superframe k, counted from 0, after those before it, and the stretch that the next pair may still lengthen: the lines of the stretches
 // that are known to have ended are put.
 pub fn step(pen: &mut Pen<'_>, last: Option<Stretch>, k: u32, kinds: [u8; 64]) -> Option<Stretch>
-    ensures same_buffer { pen.new.out.ghost_name ≡ pen.old.out.ghost_name }
-    ensures told { Step last (64 * k) kinds (on pen.old) (on pen.new) result }
+    ensures { PutsStep pen.old pen.new last (64 * k) kinds result }
 {
     let first = 64 * u64::from(k);
     let mut going = last;

@@ -28,12 +28,16 @@ loop-i-preserved c =
       text = turn_lines a.last (64 * a.k) a.kinds l.i within l.going l.invariant.last l.invariant.text (rw c.from-first.ensures at c.meet-going.ensures.text);
     }
 
-pub returns-clause-told : goal.returns-clause-told
-returns-clause-told c =
+pub returns : goal.returns
+returns c =
     let l = c.loop-i in
     let a = c.args in
     let all : take l.i a.kinds ≡ a.kinds = take_all l.i a.kinds (omega arith) in
     record {
-      last = l.invariant.last ∙ ap (λ (ks : List ℕ). take 1 (from (opened a.last) (64 * a.k) ks)) all;
-      text = l.invariant.text.told ∙ ap (λ (ks : List ℕ). put_text (on a.pen.now) (lines (drop 1 (from (opened a.last) (64 * a.k) ks)))) all;
+      same_buffer = l.invariant.text.same_buffer;
+      told =
+          record {
+            last = l.invariant.last ∙ ap (λ (ks : List ℕ). take 1 (from (opened a.last) (64 * a.k) ks)) all;
+            text = l.invariant.text.told ∙ ap (λ (ks : List ℕ). put_text (on a.pen.now) (lines (drop 1 (from (opened a.last) (64 * a.k) ks)))) all;
+          };
     }
