@@ -39,7 +39,7 @@ pub fn failed(error: &io::Error) -> Errno
 }
 
 impl From<io::Error> for Errno {
-    ghost from_gives = { λ _ error. Told error.number };
+    ghost from_gives = { λ _ error. Told error.number × (1 ≤ error.number) };
 
     fn from(error: io::Error) -> Errno {
         failed(&error)

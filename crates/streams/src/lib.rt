@@ -6,7 +6,7 @@ mod arguments;
 mod errno;
 mod progress;
 
-ghost use Rattle.std.specs.Prelude.{◌≡◌, ◌<◌, ◌≤◌, pos, length, IsOk};
+ghost use Rattle.std.specs.Prelude.{◌≡◌, ◌<◌, ◌≤◌, pos, length, IsOk, Err};
 ghost use Rattle.io.specs.Counts.{IsPrefixLen};
 ghost use Rattle.streams.specs.Error.{error_of, Told, number_in, came_in};
 
@@ -54,7 +54,8 @@ pub fn fill<R: Read>(from: &mut R, buf: &mut [u8]) -> Result<usize, CutOff>
 
 // Writes all of these bytes.
 pub fn write<W: Write>(to: &mut W, bytes: &[u8]) -> Result<(), Errno>
-    ensures { Told (number_in result) }
+    ensures told { Told (number_in result) }
+    ensures never_0 { (e : _) → result ≡ Err e → 1 ≤ e.number }
 {
     to.write_all(bytes)?;
     Ok(())

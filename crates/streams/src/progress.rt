@@ -1,4 +1,6 @@
 // A word now and then, while a long reel is read, for whoever watches: on one line of standard error, and only where that is a terminal.
+ghost use Rattle.std.specs.Prelude.{◌≡◌};
+
 use std::io::{IsTerminal, Stderr};
 use text::Pen;
 
@@ -15,7 +17,9 @@ pub struct Progress {
 }
 
 impl Progress {
-    pub fn new(watched: Option<Stderr>, promised: u32) -> Self {
+    pub fn new(watched: Option<Stderr>, promised: u32) -> Self
+        ensures { (result.watched ≡ watched) × ((result.done ≡ 0) × (result.promised ≡ promised)) }
+    {
         Progress {
             watched,
             done: 0,
