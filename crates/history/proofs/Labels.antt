@@ -31,7 +31,6 @@ use Rattle.service.proofs.Labels as machine
 use Rattle.superframe.specs.State.{factors_of, joined_state, state_in_range, lost_with, serviced_from, serviced_with, next_served, after_loss}
 use Rattle.history.specs.Run.{taken, behind}
 use Rattle.superframe.specs.declared.state.State.{State}
-use Rattle.superframe.specs.declared.state.Serviced.{Serviced}
 use Rattle.history.proofs.Loss.{lost-in-range, lose-free, lose-accepted}
 use Rattle.history.proofs.Ranges.{service-fact, serviced-is, next-is, service-keeps-range}
 
@@ -53,14 +52,14 @@ taken_is xs s x h =
     serviced-is (behind s xs) x.six x.sync (run-in-range xs s h)
     ∙ ap (λ (v : Service). serviced_from (behind s xs) (stepped v x)) (ap (λ (s : State). s.service) (run-parts xs s h))
 
-abbrev pub labels_in : Result Serviced Refusal → Option (List ℕ)
+abbrev pub labels_in : Result (Served State) Refusal → Option (List ℕ)
 labels_in (Ok r) = r.labels
 labels_in (Err why) = None
 
-abbrev pub NoLabels : Result Serviced Refusal → Type 0
+abbrev pub NoLabels : Result (Served State) Refusal → Type 0
 NoLabels r = labels_in r ≡ None
 
-labels-from : (s : State) (r : Result Served Refusal) → labels_in (serviced_from s r) ≡ progress.labels_in r
+labels-from : (s : State) (r : Result (Served Service) Refusal) → labels_in (serviced_from s r) ≡ progress.labels_in r
 labels-from s (Ok r) = refl
 labels-from s (Err why) = refl
 
@@ -77,7 +76,7 @@ unfolding searching_service
 loss-none s a = let free = lose-free s a in rw (lose-accepted s a) (soon-none _ (lost-in-range s free.0 free.1) (omega arith))
 
 -- labels, and the stage behind them
-come-from : (s : State) (r : Result Served Refusal) (l : List ℕ) → IsOkAnd r (λ r. (r.labels ≡ Some l) × (r.next.stage ≡ 0))
+come-from : (s : State) (r : Result (Served Service) Refusal) (l : List ℕ) → IsOkAnd r (λ r. (r.labels ≡ Some l) × (r.next.stage ≡ 0))
     → IsOkAnd (serviced_from s r) (λ r. (r.labels ≡ Some l) × (r.next.service.stage ≡ 0))
 come-from s (Ok r) l h = h
 come-from s (Err why) l h = h

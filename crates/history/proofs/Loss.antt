@@ -20,6 +20,7 @@ use Rattle.bits.specs.Refused.{number_in}
 use Rattle.bits.specs.declared.refusal.Refusal.{Refusal}
 use Rattle.bits.proofs.Tests.{either_way, both, both_right}
 use Rattle.service.specs.Service.{searching_service, in_range, served}
+use Rattle.service.specs.declared.Service.{Service}
 use Rattle.service.specs.declared.Served.{Served}
 use Rattle.running.specs.Running.{has_room, no_running, with_lost}
 use Rattle.running.proofs.Ranges as running
@@ -71,7 +72,7 @@ pub lose-twice : (s : State) → number_in (lost_with s) ≡ 0 → number_in (lo
 lose-twice s a b = rw (lose-accepted (after_loss s) b, lose-accepted s a)
 
 -- whatever the service answers
-factors-kept : (s : State) (r : Result Served Refusal) → factors_of (next_served s (serviced_from s r)) ≡ factors_of s
+factors-kept : (s : State) (r : Result (Served Service) Refusal) → factors_of (next_served s (serviced_from s r)) ≡ factors_of s
 factors-kept s (Ok r) = refl
 factors-kept s (Err why) = refl
 

@@ -25,6 +25,7 @@ use Rattle.bits.proofs.Digits.{below-tab}
 use Rattle.bits.proofs.Bits.{below_all}
 use Rattle.service.specs.Service.{in_range, served}
 use Rattle.service.specs.Run.{Step, stepped, next_of}
+use Rattle.service.specs.declared.Service.{Service}
 use Rattle.service.specs.declared.Served.{Served}
 use Rattle.service.proofs.Machine.{InRange, in-range-true, in-range-fact}
 use Rattle.service.proofs.Progress as progress
@@ -63,7 +64,7 @@ unfolding serviced_with
 serviced-is s six sync h = rw h
 
 -- whatever the service answers, it is a step of the machine
-pub next-is : (s : State) (r : Result Served Refusal) → next_served s (serviced_from s r) ≡ joined_state (factors_of s) (next_of s.service r) s.totals
+pub next-is : (s : State) (r : Result (Served Service) Refusal) → next_served s (serviced_from s r) ≡ joined_state (factors_of s) (next_of s.service r) s.totals
 next-is s (Ok r) = refl
 next-is s (Err why) = refl
 

@@ -28,10 +28,10 @@ use Rattle.running.specs.Document.{Full}
 use Rattle.running.specs.declared.Running.{Running}
 use Rattle.running.proofs.Adds.{added-at}
 use Rattle.running.proofs.Sums.{sum_is, few}
+use Rattle.service.specs.declared.Served.{Served}
 use Rattle.superframe.specs.State.{state_in_range, lost_with, next_served, reset_with, after_loss, after_reset}
 use Rattle.superframe.specs.Take.{beside_with, take_answer, outcome, next_state}
 use Rattle.superframe.specs.declared.state.State.{State}
-use Rattle.superframe.specs.declared.state.Serviced.{Serviced}
 use Rattle.superframe.specs.declared.taking.Taken.{Taken}
 use Rattle.superframe.specs.declared.taking.NotTaken.{NotTaken}
 use Rattle.superframe.proofs.Parts.{running-in-range}
@@ -46,7 +46,7 @@ made-in-range : (s s' : State) (e : Asked) → Made s e s' → state_in_range s 
 made-in-range s s' e (taking k) h = take-in-range s k h
 made-in-range s s' e (losing r m) h = subst (λ (r : Result State Refusal). state_in_range (result_unwrap_or r s) ≡ true) (sym m) (lose-in-range s h)
 made-in-range s s' e (serving six sync r m) h =
-    subst (λ (r : Result Serviced Refusal). state_in_range (next_served s r) ≡ true) (sym m) (service-keeps-range s (record { six = six; sync = sync }) h)
+    subst (λ (r : Result (Served State) Refusal). state_in_range (next_served s r) ≡ true) (sym m) (service-keeps-range s (record { six = six; sync = sync }) h)
 made-in-range s s' e (resetting r m) h = subst (λ (r : Result State Refusal). state_in_range (result_unwrap_or r s) ≡ true) (sym m) (reset-in-range s h)
 
 pub run-in-range : (s : State) (es : List Asked) → Run s es → state_in_range s ≡ true
@@ -87,7 +87,7 @@ made-totals s s' e (taking k) =
     ap (λ (r : Result Taken NotTaken). (next_state r).totals) (answer-is s k (outcome k.answer) refl) ∙ answer-totals k.radius (outcome k.answer) s k.bytes
 made-totals s s' e (losing r m) =
     subst (λ (r : Result State Refusal). (result_unwrap_or r s).totals ≡ after s.totals (lose (number_in r))) (sym m) (lose-totals s)
-made-totals s s' e (serving six sync r m) = ap (λ (r : Result Serviced Refusal). (next_served s r).totals) m ∙ service-counts s six sync
+made-totals s s' e (serving six sync r m) = ap (λ (r : Result (Served State) Refusal). (next_served s r).totals) m ∙ service-counts s six sync
 made-totals s s' e (resetting r m) =
     subst (λ (r : Result State Refusal). (result_unwrap_or r s).totals ≡ after s.totals (reset (number_in r))) (sym m) (reset-totals s)
 

@@ -4,11 +4,11 @@
 use Rattle.std.specs.Prelude.{List, [], ◌∷◌, Result}
 use Rattle.bits.specs.declared.refusal.Refusal.{Refusal}
 use Rattle.service.specs.Run.{Step}
+use Rattle.service.specs.declared.Served.{Served}
 use Rattle.superframe.specs.State.{serviced_with, next_served}
 use Rattle.superframe.specs.declared.state.State.{State}
-use Rattle.superframe.specs.declared.state.Serviced.{Serviced}
 
-abbrev pub taken : State → Step → Result Serviced Refusal
+abbrev pub taken : State → Step → Result (Served State) Refusal
 taken s x = serviced_with s x.six x.sync
 
 unfoldable pub behind : State → List Step → State

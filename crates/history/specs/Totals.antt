@@ -20,15 +20,15 @@ use Rattle.service_sync.specs.Sync.{number_of}
 use Rattle.bits.specs.declared.refusal.Refusal.{Refusal}
 use Rattle.bits.specs.Refused.{number_in}
 use Rattle.bits.specs.Table.{total}
+use Rattle.service.specs.declared.Served.{Served}
 use Rattle.tape.specs.Document.{entry, programme_blocks}
 use Rattle.superframe.specs.State.{fresh_state, lost_with, serviced_with, next_served, reset_with}
 use Rattle.superframe.specs.declared.state.State.{State}
-use Rattle.superframe.specs.declared.state.Serviced.{Serviced}
 use Rattle.history.specs.Calls.{Call}
 use Rattle.superframe.specs.Take.{next_state, number_told}
 
 -- 7 where the sync is neither of the two, which refuses nothing
-abbrev pub number_served : Result Serviced Refusal → ℕ
+abbrev pub number_served : Result (Served State) Refusal → ℕ
 number_served (Ok r) = number_of r.kind
 number_served (Err why) = refusals.number_of why
 
@@ -41,7 +41,7 @@ pub data Asked : Type 0 where
 pub data Made (s : State) : Asked → State → Type 0 where
   taking : (k : Call s) → Made s (take k.radius k.bytes (number_told k.answer)) (next_state k.answer)
   losing : (r : Result State Refusal) → r ≡ lost_with s → Made s (lose (number_in r)) (result_unwrap_or r s)
-  serving : (six sync : List ℕ) (r : Result Serviced Refusal) → r ≡ serviced_with s six sync → Made s (serve (number_served r)) (next_served s r)
+  serving : (six sync : List ℕ) (r : Result (Served State) Refusal) → r ≡ serviced_with s six sync → Made s (serve (number_served r)) (next_served s r)
   resetting : (r : Result State Refusal) → r ≡ reset_with s → Made s (reset (number_in r)) (result_unwrap_or r s)
 
 pub data Run : State → List Asked → Type 0 where

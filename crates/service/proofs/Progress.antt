@@ -63,7 +63,7 @@ accepted-moved s six k h =
     record { range = record { position = m.0; stage = m.1 }; further = m.2 }
 
 -- a step is accepted or refused
-answer-either : (P : Result Served Refusal → Type 0) (s : Service) (six sync : List ℕ)
+answer-either : (P : Result (Served Service) Refusal → Type 0) (s : Service) (six sync : List ℕ)
     → P (Ok (step_by s six (kind_of sync))) → P (Err Range) → P (served s six sync)
 unfolding served
 answer-either P s six sync h k = picked P (accepts s sync) (Ok (step_by s six (kind_of sync))) (Err Range) h k
@@ -83,11 +83,11 @@ run_moved (x ∷ xs) s h =
     record { range = rest.range; further = omega (arith, one.further, rest.further) }
 
 -- ---- labels are not handed out before their time
-abbrev pub labels_in : Result Served Refusal → Option (List ℕ)
+abbrev pub labels_in : Result (Served Service) Refusal → Option (List ℕ)
 labels_in (Ok r) = r.labels
 labels_in (Err e) = None
 
-abbrev pub NoLabels : Result Served Refusal → Type 0
+abbrev pub NoLabels : Result (Served Service) Refusal → Type 0
 NoLabels r = labels_in r ≡ None
 
 not-ready : (p t : ℕ) → 8 * t + p < 72 → is_ready p t ≡ false

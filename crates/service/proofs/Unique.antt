@@ -16,5 +16,5 @@ searching-unique r r' = same
 pub in-range-unique : (r r' : Bool) (s : Service) → r ≡ in_range s → r' ≡ in_range s → r ≡ r'
 in-range-unique r r' s = same
 
-pub serve-unique : (r r' : Result Served Refusal) (s : Service) (six sync : List ℕ) → r ≡ served s six sync → r' ≡ served s six sync → r ≡ r'
+pub serve-unique : (r r' : Result (Served Service) Refusal) (s : Service) (six sync : List ℕ) → r ≡ served s six sync → r' ≡ served s six sync → r ≡ r'
 serve-unique r r' s six sync = same

@@ -15,10 +15,10 @@ pub record Step : Type 0 where
   pub six : List ℕ
   pub sync : List ℕ
 
-abbrev pub stepped : Service → Step → Result Served Refusal
+abbrev pub stepped : Service → Step → Result (Served Service) Refusal
 stepped s x = served s x.six x.sync
 
-abbrev pub next_of : Service → Result Served Refusal → Service
+abbrev pub next_of : Service → Result (Served Service) Refusal → Service
 next_of s (Ok r) = r.next
 next_of s (Err e) = s
 

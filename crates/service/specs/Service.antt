@@ -31,7 +31,7 @@ unfoldable pub accepts : Service → List ℕ → Bool
 accepts s sync = cond (in_range s) (all_below 2 sync) false
 
 -- the six bytes have the position that the sync before them gave; a drop behind them does not change it
-abbrev pub step_by : Service → List ℕ → Kind → Served
+abbrev pub step_by : Service → List ℕ → Kind → Served Service
 step_by s six k =
     record {
       position = s.position;
@@ -40,9 +40,9 @@ step_by s six k =
       next = take_sync k (take_six s six);
     }
 
-unfoldable pub served : Service → List ℕ → List ℕ → Result Served Refusal
+unfoldable pub served : Service → List ℕ → List ℕ → Result (Served Service) Refusal
 served s six sync = cond (accepts s sync) (Ok (step_by s six (kind_of sync))) (Err Range)
 
-abbrev pub number_told : Result Served Refusal → ℕ
+abbrev pub number_told : Result (Served Service) Refusal → ℕ
 number_told (Ok r) = number_of r.kind
 number_told (Err e) = refusals.number_of e

@@ -23,16 +23,16 @@ pub struct Service {
     pub labels: [u8; 256],
 }
 
-// What one superframe's six bytes and sync give.
+// What one superframe's six bytes and sync give, and the state behind them: the machine's own here, the reader's in `superframe`.
 #[derive(Clone, Copy, PartialEq, Eq, Debug)]
-pub struct Served {
+pub struct Served<S> {
     // of the six bytes; 0: they belong to no open group
     pub position: u8,
     // which sync is behind them: neither of the two is number 7
     pub kind: Kind,
     // 32 labels of eight characters, where they are handed out
     pub labels: Option<[u8; 256]>,
-    pub next: Service,
+    pub next: S,
 }
 
 // No group open, and labels searched for.
@@ -66,7 +66,7 @@ fn accepted(service: Service, sync: [u8; 16]) -> bool
 // The six bytes are taken first, then the sync. Refused with number 2 where the state is out of its range or an entry of the sync is no bit; the state is
 // then as it was given.
 #[tactic(auto, unfolding(crate::specs::Service::served))]
-pub fn serve(service: Service, six: [u8; 6], sync: [u8; 16]) -> Result<Served, Refusal>
+pub fn serve(service: Service, six: [u8; 6], sync: [u8; 16]) -> Result<Served<Service>, Refusal>
     ensures { result ≡ served service six sync }
 {
     if !accepted(service, sync) {

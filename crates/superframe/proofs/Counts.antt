@@ -19,6 +19,7 @@ use Rattle.bits.specs.declared.refusal.Refusal.{Refusal}
 use Rattle.bits.specs.declared.refusal.Refusal.TheVariants.{Sync}
 use Rattle.bits.proofs.Tests.{either_way}
 use Rattle.service.specs.Service.{served}
+use Rattle.service.specs.declared.Service.{Service}
 use Rattle.service.specs.declared.Served.{Served}
 use Rattle.tape.specs.Tape.{blocks_of}
 use Rattle.running.specs.Running.{has_room}
@@ -44,7 +45,7 @@ module _ (radius : ℕ) (s : State) (sf : List ℕ) (samples : List ℤ) (marks 
   take-adds-nothing z = ap (λ (s : State). s.totals) ((take-refuses radius s sf samples marks r samples' marks' t).given z)
 
 -- whatever the service answers
-served-adds-nothing : (s : State) (r : Result Served Refusal) → (next_served s (serviced_from s r)).totals ≡ s.totals
+served-adds-nothing : (s : State) (r : Result (Served Service) Refusal) → (next_served s (serviced_from s r)).totals ≡ s.totals
 served-adds-nothing s (Ok r) = refl
 served-adds-nothing s (Err why) = refl
 

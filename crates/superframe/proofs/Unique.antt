@@ -6,12 +6,12 @@ use Rattle.std.specs.declared.result.Result.{Result}
 use Rattle.bits.specs.declared.refusal.Refusal.{Refusal}
 use Rattle.bits.proofs.Unique.{same}
 use lib.IntN.{ℤ}
+use Rattle.service.specs.declared.Served.{Served}
 use Rattle.superframe.specs.Take.{Took}
 use Rattle.superframe.specs.declared.taking.Taken.{Taken}
 use Rattle.superframe.specs.declared.taking.NotTaken.{NotTaken}
 use Rattle.superframe.specs.State.{fresh_state, lost_with, serviced_with, reset_with}
 use Rattle.superframe.specs.declared.state.State.{State}
-use Rattle.superframe.specs.declared.state.Serviced.{Serviced}
 
 pub fresh-unique : (r r' : State) → r ≡ fresh_state → r' ≡ fresh_state → r ≡ r'
 fresh-unique r r' = same
@@ -20,7 +20,7 @@ module _ (s : State) where
   pub lose-unique : (r r' : Result State Refusal) → r ≡ lost_with s → r' ≡ lost_with s → r ≡ r'
   lose-unique r r' = same
 
-  pub take-service-unique : (r r' : Result Serviced Refusal) (six sync : List ℕ) → r ≡ serviced_with s six sync → r' ≡ serviced_with s six sync → r ≡ r'
+  pub take-service-unique : (r r' : Result (Served State) Refusal) (six sync : List ℕ) → r ≡ serviced_with s six sync → r' ≡ serviced_with s six sync → r ≡ r'
   take-service-unique r r' six sync = same
 
   pub reset-unique : (r r' : Result State Refusal) → r ≡ reset_with s → r' ≡ reset_with s → r ≡ r'

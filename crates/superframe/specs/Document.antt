@@ -19,10 +19,10 @@ use Rattle.reading.specs.Reading.{OtherRadius}
 use Rattle.tape.specs.Faults.{WrongSync}
 use Rattle.running.specs.Document.{Broken, Full}
 use Rattle.beside.specs.Beside.{six_and_sync}
+use Rattle.service.specs.declared.Served.{Served}
 use Rattle.superframe.specs.State.{factors_of, serviced_with, next_served, after_loss}
 use Rattle.superframe.specs.Take.{number_told, next_state}
 use Rattle.superframe.specs.declared.state.State.{State}
-use Rattle.superframe.specs.declared.state.Serviced.{Serviced}
 use Rattle.superframe.specs.declared.taking.Taken.{Taken}
 use Rattle.superframe.specs.declared.taking.NotTaken.{NotTaken}
 
@@ -51,7 +51,7 @@ pub record LoseRefuses (s : State) (r : Result State Refusal) : Type 0 where
   pub order : Refused (OutOfRange s) 2 (Refused (Full s.totals) 9 Accepted) (number_in r)
   pub given : number_in r ≢ 0 → result_unwrap_or r s ≡ s
 
-pub record ServiceRefuses (s : State) (sync : List ℕ) (r : Result Serviced Refusal) : Type 0 where
+pub record ServiceRefuses (s : State) (sync : List ℕ) (r : Result (Served State) Refusal) : Type 0 where
   pub two : OutOfRange s ⊎ NoBits sync → number_in r ≡ 2
   pub only : number_in r ≡ 2 → OutOfRange s ⊎ NoBits sync
   pub given : number_in r ≡ 2 → next_served s r ≡ s
@@ -70,7 +70,7 @@ pub record Resets (s t : State) : Type 0 where
   pub factors : factors_of t ≡ factors_of s
   pub service : t.service ≡ s.service
 
-pub record ServedAs (r : Serviced) (t : Taken) : Type 0 where
+pub record ServedAs (r : Served State) (t : Taken) : Type 0 where
   pub position : t.position ≡ r.position
   pub kind : t.kind ≡ r.kind
   pub labels : t.labels ≡ r.labels

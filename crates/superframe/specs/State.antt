@@ -26,7 +26,6 @@ use Rattle.service.specs.declared.Served.{Served}
 use Rattle.running.specs.Running.{running_in_range, has_room, no_running, with_lost}
 use Rattle.running.specs.declared.Running.{Running}
 use Rattle.superframe.specs.declared.state.State.{State}
-use Rattle.superframe.specs.declared.state.Serviced.{Serviced}
 
 unfoldable pub missing : List ℕ
 missing = replicate 32 8
@@ -60,17 +59,17 @@ unfoldable pub lost_with : State → Result State Refusal
 lost_with s = cond (state_in_range s) (cond (has_room s.totals) (Ok (lost_state s)) (Err Full)) (Err Range)
 
 -- what the service answers, with the state's other parts as given
-abbrev pub serviced_by : State → Served → Serviced
+abbrev pub serviced_by : State → Served Service → Served State
 serviced_by s r = record { position = r.position; kind = r.kind; labels = r.labels; next = joined_state (factors_of s) r.next s.totals }
 
-abbrev pub serviced_from : State → Result Served Refusal → Result Serviced Refusal
+abbrev pub serviced_from : State → Result (Served Service) Refusal → Result (Served State) Refusal
 serviced_from s (Ok r) = Ok (serviced_by s r)
 serviced_from s (Err why) = Err why
 
-unfoldable pub serviced_with : State → List ℕ → List ℕ → Result Serviced Refusal
+unfoldable pub serviced_with : State → List ℕ → List ℕ → Result (Served State) Refusal
 serviced_with s six sync = cond (state_in_range s) (serviced_from s (served s.service six sync)) (Err Range)
 
-abbrev pub next_served : State → Result Serviced Refusal → State
+abbrev pub next_served : State → Result (Served State) Refusal → State
 next_served s (Ok r) = r.next
 next_served s (Err why) = s
 

@@ -23,6 +23,7 @@ use Rattle.reading.specs.Reading.{is_radius}
 use Rattle.service_sync.specs.Sync.{kind_of}
 use Rattle.service_sync.specs.declared.Kind.TheVariants.{First}
 use Rattle.service.specs.Service.{step_by}
+use Rattle.service.specs.declared.Service.{Service}
 use Rattle.service.specs.declared.Served.{Served}
 use Rattle.tape.specs.Tape.{synced, wrong_bits, blocks_of, no_blocks}
 use Rattle.running.specs.Running.{has_room, with_taken}
@@ -48,7 +49,7 @@ take_number radius s sf samples marks = number_in (taking radius s sf samples ma
 abbrev pub taken_factors : State → List ℕ → Factors
 taken_factors s sf = record { next = s.after; after = (programmes_of sf).factors }
 
-abbrev pub served_in : State → List ℕ → Served
+abbrev pub served_in : State → List ℕ → Served Service
 served_in s sf = step_by s.service (six_and_sync sf).six (kind_of (six_and_sync sf).sync)
 
 unfoldable pub beside_with : State → List ℕ → ℕ → Blocks → Taken

@@ -4,5 +4,5 @@
 mod state;
 mod taking;
 
-pub use state::{Serviced, State};
+pub use state::State;
 pub use taking::{NotTaken, Taken};

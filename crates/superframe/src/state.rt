@@ -5,8 +5,7 @@ ghost use Rattle.superframe.specs.State.{fresh_state, factors_in_range, state_in
 
 use bits::Refusal;
 use running::Running;
-use service::Service;
-use service_sync::Kind;
+use service::{Served, Service};
 
 // The two sets of factors are two arrays of 32, as document 01 has them.
 #[derive(Clone, Copy)]
@@ -18,18 +17,6 @@ pub struct State {
     pub service: Service,
     // since the last reset (document 02, P7)
     pub totals: Running,
-}
-
-// The answer to six service bytes and the sync behind them.
-#[derive(Clone, Copy)]
-pub struct Serviced {
-    // of the six bytes; 0: they belong to no open group
-    pub position: u8,
-    // which sync is behind them: neither of the two is number 7
-    pub kind: Kind,
-    // 32 labels of eight characters, where they are handed out
-    pub labels: Option<[u8; 256]>,
-    pub next: State,
 }
 
 // A set of factors that is missing.
@@ -86,7 +73,7 @@ impl State {
 
     // Six service bytes, then the 16 bits of the sync behind them. Refused for a state out of range, or an entry of the sync that is no bit.
     #[tactic(auto, unfolding(crate::specs::State::serviced_with))]
-    pub fn take_service(self, six: [u8; 6], sync: [u8; 16]) -> Result<Serviced, Refusal>
+    pub fn take_service(self, six: [u8; 6], sync: [u8; 16]) -> Result<Served<State>, Refusal>
         ensures { result ≡ serviced_with self six sync }
     {
         if !self.in_range() {
@@ -94,7 +81,7 @@ impl State {
         }
         let served = service::serve(self.service, six, sync)?;
         let service = served.next;
-        Ok(Serviced {
+        Ok(Served {
             position: served.position,
             kind: served.kind,
             labels: served.labels,

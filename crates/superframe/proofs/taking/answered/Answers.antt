@@ -9,6 +9,7 @@ use Rattle.std.specs.declared.result.Result.TheVariants.{Ok}
 use Rattle.bits.specs.declared.refusal.Refusal.{Refusal}
 use Rattle.bits.proofs.Refused.{ok_same}
 use Rattle.service.specs.Service.{served}
+use Rattle.service.specs.declared.Service.{Service}
 use Rattle.service.specs.declared.Served.{Served}
 use Rattle.beside.specs.Beside.{six_and_sync}
 use Rattle.beside.specs.declared.SixAndSync.{SixAndSync}
@@ -23,7 +24,7 @@ use Rattle.superframe.proofs.Served.{accepted-is}
 use Rattle.superframe.proofs.taking.answered.Goals as goal
 
 -- what the service answers to the bits that were sent
-serves : (s : State) → state_in_range s ≡ true → (sf : List ℕ) (sent : SixAndSync) → sent ≡ six_and_sync sf → (r : Result Served Refusal) → r ≡ served s.service sent.six sent.sync
+serves : (s : State) → state_in_range s ≡ true → (sf : List ℕ) (sent : SixAndSync) → sent ≡ six_and_sync sf → (r : Result (Served Service) Refusal) → r ≡ served s.service sent.six sent.sync
     → r ≡ Ok (served_in s sf)
 serves s h sf sent e r m = m ∙ ap (λ (v : SixAndSync). served s.service v.six v.sync) e ∙ accepted-is s sf h
 
