@@ -1,5 +1,4 @@
 // The text of running totals (document 02, P7; docs/HAND-ON.md, "totals.txt"), put by a pen. Programmes count from 0 here, and from 1 in the text.
-// Numbers are widened by `as`: what `From` hands is known by an equation alone, which each proof would have to carry on.
 #![tactic(auto)]
 
 ghost use Rattle.std.specs.Prelude.{◌<◌};
@@ -20,17 +19,17 @@ fn put_programme(pen: &mut Pen<'_>, q: u64, clean: u32, mended: u32, bad: u32)
     pen.put_all(b"programme");
     pen.put_next(q + 1);
     pen.put_all(b" clean");
-    pen.put_next(clean as u64);
+    pen.put_next(u64::from(clean));
     pen.put_all(b" mended");
-    pen.put_next(mended as u64);
-    listing_text::put_line(pen, b" bad", bad as u64);
+    pen.put_next(u64::from(mended));
+    listing_text::put_line(pen, b" bad", u64::from(bad));
 }
 
 fn put_all(pen: &mut Pen<'_>, promised: u32, totals: Running)
     ensures { Puts pen.old pen.new (totals_lines promised totals) }
 {
-    let lost = totals.lost as u64;
-    let given = totals.taken as u64 + lost;
+    let lost = u64::from(totals.lost);
+    let given = u64::from(totals.taken) + lost;
     listing_text::put_line(pen, b"superframes", given);
     listing_text::put_line(pen, b"lost", lost);
     text_rows::put_turns(pen, 16, |pen, q| {
