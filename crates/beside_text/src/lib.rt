@@ -31,8 +31,8 @@ fn put_service(pen: &mut Pen<'_>, position: u8, number: u8, six: &[u8])
     ensures { Puts pen.old pen.new (service_line position number six.now) }
 {
     pen.put_all(b"service");
-    pen.put_next(position as u64);
-    pen.put_next(number as u64);
+    pen.put_next(u64::from(position));
+    pen.put_next(u64::from(number));
     put_next_hex(pen, six);
     pen.put(b'\n');
 }
@@ -71,14 +71,13 @@ fn put_factors(pen: &mut Pen<'_>, numbers: [u8; 16], factors: [u8; 32])
     );
 }
 
-#[tactic(auto, unfolding(crate::specs::Lines::places_text, bits::specs::Letters::letters))]
 fn put_places(pen: &mut Pen<'_>, number: u8, places: u8)
     ensures { Puts pen.old pen.new (places_text number places) }
 {
-    if number != 0 {
-        pen.put_all(b" -");
+    if number == 0 {
+        pen.put_next(u64::from(places));
     } else {
-        pen.put_next(places as u64);
+        pen.put_all(b" -");
     }
 }
 
