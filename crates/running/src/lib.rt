@@ -33,17 +33,14 @@ fn adds_up(clean: u32, mended: u32, bad: u32, taken: u32) -> bool
 fn sums_fit(totals: Running) -> bool
     ensures { result ≡ sums_fit totals }
 {
-    for q in 0..16 {
-        if !adds_up(
+    (0..16).all(|q| {
+        adds_up(
             totals.clean[q],
             totals.mended[q],
             totals.bad[q],
             totals.taken,
-        ) {
-            return false;
-        }
-    }
-    true
+        )
+    })
 }
 
 fn given(taken: u32, lost: u32) -> u64
