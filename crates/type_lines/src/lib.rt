@@ -21,7 +21,7 @@ pub struct Types {
     pub superframe: u32,
 }
 
-// Without the spaces at its end.
+// Without the spaces at its end: the library has no trim of one letter, so it is taken off until it is no space.
 fn held(name: &[u8; 8]) -> &[u8]
     ensures { result.now ≡ take (held_to 8 name.now) name.now }
 {
@@ -83,6 +83,7 @@ fn put_bytes(pen: &mut Pen<'_>, k: u32, old: &[u8; 32], new: &[u8; 32])
     text_rows::put_turns(pen, 32, |pen, c| put_byte(pen, k, c as u8, old[c], new[c]));
 }
 
+// Told: whether the six bytes tell of a group, as `is_told` has it.
 fn put_told(pen: &mut Pen<'_>, told: bool, k: u32, old: &[u8; 32], new: &[u8; 32])
     ensures { Puts pen.old pen.new (type_text told k old.now new.now) }
 {
@@ -137,6 +138,7 @@ fn after(noted: Types, told: bool, k: u32, position: u8, group: [u8; 32]) -> Typ
 }
 
 impl Types {
+    #[tactic(auto, unfolding(crate::specs::Types::no_types))]
     pub fn none() -> Self
         ensures { result ≡ no_types }
     {
