@@ -47,10 +47,8 @@ fn make(rt: &HostRuntime, file: u8) -> Result<File, Errno> {
     folder::put_name(&mut pen, file);
     let end = pen.to;
     let letters = name.get(..end).ok_or(Errno::EIO)?;
-    match str::from_utf8(letters) {
-        Ok(path) => create(rt, path),
-        Err(_) => Err(Errno::EIO),
-    }
+    let path = str::from_utf8(letters).map_err(|_| Errno::EIO)?;
+    create(rt, path)
 }
 
 // How many bytes a sample has in a file: two in one of sound, one in one of marks, and none where it has no samples.
@@ -113,7 +111,7 @@ impl Opened {
         self.files.get(usize::from(file)).ok_or(Errno::EBADF)
     }
 
-    // Writes the bytes of a page before a place at the end of a file.
+    // Writes at the end of a file the bytes of a page before a place, which is told apart as the pen is let go before its page is lent.
     pub fn put(&self, file: u8, page: &[u8], end: usize) -> Result<(), Errno> {
         let mut to = self.at(file)?;
         streams::write_first(&mut to, page, end)

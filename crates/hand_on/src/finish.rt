@@ -1,4 +1,6 @@
 // What can be written only behind the last superframe: the stretches that are still open, the true lengths, and the files that are of no programme.
+ghost use Rattle.std.specs.Prelude.{◌<◌};
+
 use crate::files::{FileFault, Opened};
 use crate::going::Going;
 use bits::Refusal;
@@ -8,38 +10,35 @@ use streams::Errno;
 use tally::Totals;
 use text::Pen;
 
-// Writes a page that was put by a pen, which ended at a place.
-fn write_placed(
+// Writes a file of N bytes at most, which something puts.
+fn write_text<const N: usize, F: FnOnce(&mut Pen<'_>) -> Result<(), Refusal>>(
     opened: &Opened,
     file: u8,
-    page: &[u8],
-    placed: Result<(), Refusal>,
-    end: usize,
-) -> Result<(), FileFault> {
-    match placed {
-        Ok(()) => opened.write(file, page, end),
-        Err(_) => Err(FileFault {
-            file,
-            error: Errno::EIO,
-        }),
-    }
+    put: F,
+) -> Result<(), FileFault>
+    requires { F.IsAlwaysCallable put × (N < 9223372036854775808) }
+{
+    let mut out = [0u8; N];
+    let mut pen = Pen::new(&mut out, 0);
+    put(&mut pen).map_err(|_| FileFault {
+        file,
+        error: Errno::EIO,
+    })?;
+    let end = pen.to;
+    opened.write(file, &out, end)
 }
 
 fn write_listing(opened: &Opened, header: Header, totals: Totals) -> Result<(), FileFault> {
-    let mut out = [0u8; 192];
-    let mut pen = Pen::new(&mut out, 0);
-    let placed = listing_text::put_listing(&mut pen, Ok(header), totals);
-    let end = pen.to;
-    write_placed(opened, 51, &out, placed, end)
+    write_text::<192, _>(opened, 51, |pen| {
+        listing_text::put_listing(pen, Ok(header), totals)
+    })
 }
 
 // Their text has at most 1,057 characters (`totals-whole` in totals_text).
 fn write_totals(opened: &Opened, header: Header, totals: Running) -> Result<(), FileFault> {
-    let mut out = [0u8; 1088];
-    let mut pen = Pen::new(&mut out, 0);
-    let placed = totals_text::put_totals(&mut pen, Ok(header), totals);
-    let end = pen.to;
-    write_placed(opened, 52, &out, placed, end)
+    write_text::<1088, _>(opened, 52, |pen| {
+        totals_text::put_totals(pen, Ok(header), totals)
+    })
 }
 
 // The name and the commit are the arguments behind the first.
@@ -48,11 +47,9 @@ fn write_about(rt: HostRuntime, opened: &Opened, radius: u8) -> Result<(), FileF
     let length = streams::argument(&rt, 2, &mut reel);
     let mut commit = [0u8; 128];
     let letters = streams::argument(&rt, 3, &mut commit);
-    let mut out = [0u8; 4352];
-    let mut pen = Pen::new(&mut out, 0);
-    let placed = folder::put_about(&mut pen, &reel[..length], radius, &commit[..letters]);
-    let end = pen.to;
-    write_placed(opened, 50, &out, placed, end)
+    write_text::<4352, _>(opened, 50, |pen| {
+        folder::put_about(pen, &reel[..length], radius, &commit[..letters])
+    })
 }
 
 pub fn finish(

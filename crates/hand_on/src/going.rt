@@ -28,13 +28,11 @@ pub struct Going {
 
 // What was counted in a superframe, or why it was not taken.
 fn counted(taken: Result<Taken, NotTaken>) -> Result<Counted, Refusal> {
-    match taken {
-        Ok(taken) => Ok(Counted {
-            wrong: taken.wrong,
-            blocks: taken.blocks,
-        }),
-        Err(lost) => Err(lost.why),
-    }
+    let counts = |taken: Taken| Counted {
+        wrong: taken.wrong,
+        blocks: taken.blocks,
+    };
+    taken.map(counts).map_err(|lost| lost.why)
 }
 
 impl Going {

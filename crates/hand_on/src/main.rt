@@ -45,14 +45,12 @@ fn hand_rows(
     progress: &mut Progress,
 ) -> Result<u32, NotHanded> {
     let promised = progress.promised;
-    let mut first = 0;
-    while first < promised {
+    for first in (0..promised).step_by(64) {
         let until = promised.min(first.saturating_add(64));
         let next = going.hand_row(rt, opened, progress, first..until)?;
         if next < until {
             return Ok(next);
         }
-        first = until;
     }
     Ok(promised)
 }
