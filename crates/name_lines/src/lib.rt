@@ -103,6 +103,7 @@ fn put_lines(pen: &mut Pen<'_>, k: u32, old: Option<[u8; 256]>, new: Option<[u8;
 }
 
 impl Labels {
+    #[tactic(auto, unfolding(crate::specs::Names::no_labels))]
     pub fn none() -> Self
         ensures { result ≡ no_labels }
     {

@@ -42,6 +42,7 @@ pub fn sum(counts: [u8; 8]) -> u64
 
 impl Totals {
     // Before the first superframe.
+    #[tactic(auto, unfolding(crate::specs::Totals::no_totals))]
     pub fn none() -> Self
         ensures { result ≡ no_totals }
     {
