@@ -63,7 +63,7 @@ fn extra_of(sf: &[u8], q: usize) -> Extra
     nearest::read_extra(extra_bits(sf, q)).unwrap()
 }
 
-// 5 where the factors could not be read.
+// 5 where the factors could not be read: document 01's number, as the lists of Programmes hold it.
 fn number_of(factors: Option<Factors>) -> u8
     ensures { result ≡ number_of_factors factors }
 {

@@ -25,6 +25,7 @@ enum NotHanded {
     File(FileFault),
 }
 
+// `?` wants one for each of the two errors.
 impl From<Fault> for NotHanded {
     fn from(fault: Fault) -> NotHanded {
         NotHanded::Reel(fault)

@@ -6,7 +6,7 @@ ghost use Rattle.service.specs.Taking.{take_six, take_sync};
 use crate::Service;
 use service_sync::Kind;
 
-// A list that stands, or zeros in each of its places.
+// A list that stands, or zeros in each of its places. `then_some` and `unwrap_or` would say it in more words.
 fn kept_if<const N: usize>(holds: bool, list: [u8; N]) -> [u8; N]
     ensures { result ≡ cond holds list.entry (zeros N) }
 {

@@ -31,6 +31,7 @@ fn marked(mark: u8, factor: u8) -> u8
 }
 
 // Block n, frame number by frame number: four samples and four marks, and the block's own mark. n is less than 512, so that its frame number and its position fit a byte.
+// A reader may have any tables, so that they are the true ones is required.
 fn four(
     reader: &Reader,
     radius: u8,

@@ -61,7 +61,8 @@ pub fn write<W: Write>(to: &mut W, bytes: &[u8]) -> Result<(), Errno>
     Ok(())
 }
 
-// Writes the bytes of a page before a place. A place behind the page is none: nothing is written, and that is an error.
+// Writes the bytes of a page before a place. A place behind the page is none: nothing is written, and that is an error. Page and place are apart, as
+// this promise is of both.
 #[tactic(auto, unfolding(crate::specs::Error::error_of))]
 pub fn write_first<W: Write>(to: &mut W, page: &[u8], end: usize) -> Result<(), Errno>
     ensures { length page.now < end → number_in result ≡ error_of (pos 0) }

@@ -16,6 +16,7 @@ fn count(c: u64, one: bool) -> u64
     c.saturating_add(u64::from(one))
 }
 
+// Pair n is one of a superframe whose number has 32 bits, so that n + 1 has room.
 fn grown(s: Stretch, n: u64, kind: u8) -> Stretch
     requires { n < 1099511627776 }
     ensures { result ≡ grow s n kind }

@@ -57,6 +57,7 @@ pub fn read_at(reader: &Reader, radius: u8, sf: &[u8], f: u8, p: u8) -> Result<T
 }
 
 // The marks of all blocks at the ordinary radius, frame number by frame number. n is less than 512, so that its frame number and its position fit a byte.
+// A reader may have any tables, so that they are the true ones is required.
 fn marks_by(reader: &Reader, sf: &[u8; 5120]) -> [u8; 512]
     requires { reader.now ≡ true_reader }
     ensures { result ≡ tabulate 512 (in_eights (block_mark ordinary sf.now)) }
