@@ -4,5 +4,5 @@ pub mod Bits
 pub mod Answer
 pub mod Letters
 pub mod Order
-pub mod Printed
 pub mod Refused
+pub mod Printed

@@ -4,12 +4,15 @@
 --     answered a        an answer as its number and its values
 --     Row, _prints_     what a definition says, and what is printed
 --     Same r            that they are the same
---     printed_rows       what is printed of bits and bytes: "In a byte the first bit sent is the most significant"
+--     printed_rows       what is printed of bits and bytes: "In a byte the first bit sent is the most significant"; and of the table "Numbers given" the number of
+--                       each refusal
 use Rattle.std.specs.Prelude.{ℕ, ◌+◌, ◌-◌, ◌*◌, ◌≡◌, cond, List, [], ◌∷◌, eqb, ltb}
 use Prim.Native.Char.{code}
 use Prim.Native.String.{String, [] as end, ◌∷◌ as ◌then◌}
 use Rattle.bits.specs.Bits.{bits_of, bytes_of}
 use Rattle.bits.specs.Answer.{Answer}
+use Rattle.bits.specs.declared.refusal.Refusal.TheVariants.{Length, Range, Sync, Scale, Parity, Header, Full}
+use Rattle.bits.specs.Refused.{number_of}
 
 unfoldable pub row : String → List ℕ
 row end = []
@@ -45,4 +48,9 @@ abbrev pub Same : Row → Type 0
 Same r = r.said ≡ r.print
 
 unfoldable pub printed_rows : List Row
-printed_rows = (bits_of (hex "80 E2 01") prints row "100000001110001000000001") ∷ (bytes_of (row "100000001110001000000001") prints hex "80 E2 01") ∷ []
+printed_rows =
+    (bits_of (hex "80 E2 01") prints row "100000001110001000000001")
+    ∷ (bytes_of (row "100000001110001000000001") prints hex "80 E2 01")
+    -- 4 is not used, and 7 refuses nothing
+    ∷ (number_of Length ∷ number_of Range ∷ number_of Sync ∷ number_of Scale ∷ number_of Parity ∷ number_of Header ∷ number_of Full ∷ [] prints 1 ∷ 2 ∷ 3 ∷ 5 ∷ 6 ∷ 8 ∷ 9 ∷ [])
+    ∷ []
