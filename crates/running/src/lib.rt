@@ -56,7 +56,7 @@ fn added(totals: [u32; 16], counts: [u8; 8]) -> [u32; 16]
 {
     let mut out = [0u32; 16];
     for q in 0..16 {
-        out[q] = totals[q] + u32::from(counts[q / 2]);
+        out[q] = totals[q] + bits::wide(counts[q / 2]);
     }
     out
 }

@@ -1,10 +1,8 @@
 -- `running::added` meets its contract. Assumes nothing.
 use mathlib.Core.Path.{refl, ap}
-use Prim.Native.Nat.{ℕ, ◌+◌, ◌/◌}
+use Prim.Native.Nat.{ℕ, ◌+◌}
 use native.Mathlib.Omega.{arith}
 use lib.ListN.{get_or}
-use mir.Syntax.{w8}
-use mir.Val.{Fits}
 use Rattle.bits.specs.Table.{tabulate}
 use Rattle.bits.proofs.Table.{tab-more, tab-done}
 use Rattle.running.specs.Running.{added_to}
@@ -19,12 +17,12 @@ loop-q-init c = (search rules, search rules, refl)
 pub overflow_add-out : goal.overflow_add-out
 overflow_add-out c =
     let l = c.loop-q in
-    let counted : Fits w8 (get_or c.args.counts (l.q / 2) 0) = search rules in omega (arith, c.from.ensures, counted, c.requires.each l.q (omega arith))
+    omega (arith, c.wide.ensures.1, c.requires.each l.q (omega arith))
 
 pub loop-q-preserved : goal.loop-q-preserved
 loop-q-preserved c =
     let l = c.loop-q in
-    (search rules, search rules, tab-more (one c.args.totals c.args.counts) l.out l.q _ (omega arith) l.invariant.2 (ap (λ (n : ℕ). get_or c.args.totals l.q 0 + n) c.from.ensures))
+    (search rules, search rules, tab-more (one c.args.totals c.args.counts) l.out l.q _ (omega arith) l.invariant.2 (ap (λ (n : ℕ). get_or c.args.totals l.q 0 + n) c.wide.ensures.0))
 
 pub returns : goal.returns
 unfolding added_to
