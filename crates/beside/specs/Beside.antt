@@ -24,6 +24,7 @@ use Rattle.bits.specs.declared.refusal.Refusal.{Refusal}
 use Rattle.bits.specs.declared.refusal.Refusal.TheVariants.{Length}
 use Rattle.nearest.specs.Reading.{read_scale}
 use Rattle.nearest.specs.Extra.{information, beside}
+pub use Rattle.nearest.specs.Extra.{number_of_factors}
 use Rattle.nearest.specs.declared.Factors.{Factors}
 use Rattle.nearest.specs.declared.Extra.{Extra}
 use Rattle.frame.specs.Read.{service_read}
@@ -41,10 +42,6 @@ extra_bits sf q = tabulate 64 (extra_bit sf q)
 -- every extra bit is a bit, so that none is out of its range
 unfoldable pub extra_of : List ℕ → ℕ → Extra
 extra_of sf q = beside (information (extra_bits sf q)) (read_scale (take 42 (extra_bits sf q)))
-
-abbrev pub number_of_factors : Option Factors → ℕ
-number_of_factors None = 5
-number_of_factors (Some f) = 0
 
 abbrev pub places_of_factors : Option Factors → ℕ
 places_of_factors None = 0

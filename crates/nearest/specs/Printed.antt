@@ -1,36 +1,19 @@
 -- What the documents print of reading scale words (document 01, "Scale words", "Numbers given"; document 02, P4; the word of factors 0, 1 is a bench case).
 --     times3 text       a printed word sent three times
 --     heard bits        what 42 bits read as: the number, and the two factors and the number of places
---     listed r          the number, the factors, the number of places and the word of an answer; what does not come is 0
 --     behind w text     what 64 extra bits read as, 42 bits and a printed information word: the number, the factors, the places, the word
 --     printed_rows       THE TABLE: wrong bits, a tie, the information word, refusals
 use Rattle.std.specs.Prelude.{List, [], ◌∷◌, ◌++◌, ℕ}
 use Prim.Native.String.{String}
 use Rattle.bits.specs.Printed.{row, answered, Row, ◌prints◌}
 use Rattle.nearest.specs.Reading.{scale_answer}
-use Rattle.nearest.specs.Extra.{extra_answer}
-use Rattle.nearest.specs.declared.Factors.{Factors}
-use Rattle.nearest.specs.declared.Extra.{Extra}
-use Rattle.std.specs.declared.option.Option.{Option}
-use Rattle.std.specs.declared.option.Option.TheVariants.{Some, None}
-use Rattle.std.specs.declared.result.Result.{Result}
-use Rattle.std.specs.declared.result.Result.TheVariants.{Ok, Err}
-use Rattle.bits.specs.declared.refusal.Refusal.{Refusal}
-use Rattle.bits.specs.Refused.{number_of}
+use Rattle.nearest.specs.Extra.{extra_answer, listed}
 
 abbrev pub times3 : String → List ℕ
 times3 text = row text ++ (row text ++ row text)
 
 abbrev pub heard : List ℕ → List ℕ
 heard bits = answered (scale_answer bits)
-
-abbrev with_word : ℕ → Option Factors → List ℕ
-with_word word (Some f) = 0 ∷ f.left ∷ f.right ∷ f.places ∷ word ∷ []
-with_word word None = 5 ∷ 0 ∷ 0 ∷ 0 ∷ word ∷ []
-
-abbrev pub listed : Result Extra Refusal → List ℕ
-listed (Err r) = number_of r ∷ 0 ∷ 0 ∷ 0 ∷ 0 ∷ []
-listed (Ok e) = with_word e.word e.factors
 
 abbrev pub behind : List ℕ → String → List ℕ
 behind words text = listed (extra_answer (words ++ row text))
