@@ -1,7 +1,7 @@
 -- Laws of runs.
 --     empty-run                       no bytes are a run, which has no first superframe
 --     run-lengths, run-of-length      a run is a whole number of superframes, at most 1,000,000; and every such length is a run's
---     run-counted                     what counting says of the bytes
+--     run-counted, no_run             what counting says of the bytes
 --     part-inside, part-before, part-behind, part-no-run    the way to each number of a part
 --     part-refused                    what counting is refused for, asking is refused for
 --     part-there                      number 0 says that there is a run, and that it has this superframe
@@ -23,7 +23,7 @@ use Rattle.bits.specs.Answer.{Answer, accepted, refused}
 use Rattle.bits.specs.Refused.{number_of}
 use Rattle.bits.specs.declared.refusal.Refusal.{Refusal}
 use Rattle.bits.proofs.Refused.{not_zero}
-use Rattle.bits.proofs.Answer.{by-test}
+use Rattle.bits.proofs.Answer.{by-test, by-test-refused}
 use Rattle.bits.proofs.Tests.{both_true, either_way}
 use Rattle.reel.specs.Header.{most_superframes}
 use Rattle.reel.specs.Run.{superframe_bytes, count_of, is_run, superframe, run_of, part_number}
@@ -49,6 +49,10 @@ run-of-length bytes n e h =
 pub run-counted : (bytes : List ℕ) (n : ℕ) → accepted (n ∷ []) ≡ run_of bytes → (is_run bytes ≡ true) × (count_of bytes ≡ n)
 unfolding run_of
 run-counted bytes n e = let way = by-test (is_run bytes) 0 (sym e) in (way.0, ap (λ (l : List ℕ). get_or l 0 0) way.1)
+
+pub no_run : (bytes : List ℕ) → refused 1 ≡ run_of bytes → is_run bytes ≡ false
+unfolding run_of
+no_run bytes e = by-test-refused (is_run bytes) (count_of bytes ∷ []) 1 0 (sym e)
 
 -- a number that is 1, 2 or 0 by two tests
 number-zero : (a b : Bool) → ◌≡◌ {A = ℕ} (cond a (cond b 0 2) 1) 0 → (a ≡ true) × (b ≡ true)
