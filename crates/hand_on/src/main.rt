@@ -79,7 +79,7 @@ fn hand_reel(rt: HostRuntime, header: Header, radius: u8) -> Result<(), NotHande
 
 fn hand(rt: HostRuntime) -> Result<(), NotHanded> {
     let radius = input::radius_at(&rt, 4).ok_or(Fault::NoRadius)?;
-    let header = input::header(&mut rt.stdin()).map_err(Fault::NotRead)??;
+    let header = input::header(&mut rt.stdin()).map_err(|cut| Fault::NotRead(cut.error))??;
     input::reach(&mut rt.stdin(), header)?;
     hand_reel(rt, header, radius)
 }

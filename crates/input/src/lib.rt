@@ -7,7 +7,7 @@ mod radius;
 mod superframes;
 
 ghost use Rattle.std.specs.Prelude.{◌≤◌, IfOk, IsOk};
-ghost use Rattle.input.specs.Header.{SomeHeader};
+ghost use Rattle.input.specs.Header.{SomeHeader, said_in};
 ghost use Rattle.input.specs.Fault.{header_told, fault_in};
 
 use ending::Fault;
@@ -18,13 +18,25 @@ use std::io::Read;
 use streams::Errno;
 pub use superframes::{reach, read_all, read_places};
 
+// A read that failed, and what the bytes that came before say as a header.
+#[derive(Clone, Copy, PartialEq, Eq, Debug)]
+pub struct CutHeader {
+    pub said: Result<Header, Fault>,
+    pub error: Errno,
+}
+
 // What the first 16 bytes say, or fewer where there are not so many.
-pub fn header<R: Read>(from: &mut R) -> Result<Result<Header, Fault>, Errno>
-    ensures { IfOk result (λ header. SomeHeader (header_told header) (fault_in header)) }
+pub fn header<R: Read>(from: &mut R) -> Result<Result<Header, Fault>, CutHeader>
+    ensures { SomeHeader (header_told (said_in result)) (fault_in (said_in result)) }
 {
     let mut bytes = [0u8; 16];
-    let came = streams::fill(from, &mut bytes)?;
-    Ok(header_in(&bytes[..came]))
+    match streams::fill(from, &mut bytes) {
+        Ok(came) => Ok(header_in(&bytes[..came])),
+        Err(cut) => Err(CutHeader {
+            said: header_in(&bytes[..cut.came]),
+            error: cut.error,
+        }),
+    }
 }
 
 // Reads past at most so many bytes, and answers how many came.

@@ -39,7 +39,7 @@ fn list_reel(rt: HostRuntime, header: Header) -> Result<(), Fault> {
 }
 
 fn list(rt: HostRuntime) -> Result<(), Fault> {
-    match input::header(&mut rt.stdin()).map_err(Fault::NotRead)? {
+    match input::header(&mut rt.stdin()).map_err(|cut| Fault::NotRead(cut.error))? {
         Ok(header) => list_reel(rt, header),
         Err(fault) => {
             write_listing(rt.stdout(), Err(Refusal::Header), Totals::none())?;

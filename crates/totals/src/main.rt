@@ -52,7 +52,7 @@ fn count_reel(rt: HostRuntime, header: Header, radius: u8) -> Result<(), Fault> 
 
 fn count(rt: HostRuntime) -> Result<(), Fault> {
     let radius = input::radius_at(&rt, 2).ok_or(Fault::NoRadius)?;
-    match input::header(&mut rt.stdin()).map_err(Fault::NotRead)? {
+    match input::header(&mut rt.stdin()).map_err(|cut| Fault::NotRead(cut.error))? {
         Ok(header) => count_reel(rt, header, radius),
         Err(fault) => {
             write_totals(rt.stdout(), Err(Refusal::Header), Running::none())?;

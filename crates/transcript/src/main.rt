@@ -73,7 +73,7 @@ fn write_reel(rt: HostRuntime, header: Header, radius: u8) -> Result<(), Fault> 
 
 fn write(rt: HostRuntime) -> Result<(), Fault> {
     let radius = input::radius_at(&rt, 2).ok_or(Fault::NoRadius)?;
-    match input::header(&mut rt.stdin()).map_err(Fault::NotRead)? {
+    match input::header(&mut rt.stdin()).map_err(|cut| Fault::NotRead(cut.error))? {
         Ok(header) => write_reel(rt, header, radius),
         Err(fault) => {
             write_line(rt.stdout(), b"refused 8\n")?;
