@@ -1,6 +1,6 @@
 // What goes on from superframe to superframe, and the superframes themselves, up to 64 at a time: their sound, marks and words are written together.
 // Superframes count from 0 here.
-ghost use Rattle.std.specs.Prelude.{◌<◌};
+ghost use Rattle.std.specs.Prelude.{◌≡◌, ◌+◌, ◌<◌, ◌≤◌, IfOk};
 
 use crate::files::{FileFault, Opened};
 use crate::names::Noted;
@@ -103,11 +103,15 @@ impl Going {
         opened: &Opened,
         progress: &mut Progress,
         places: Range<u32>,
-    ) -> Result<u32, NotHanded> {
+    ) -> Result<u32, NotHanded>
+        requires { (places.start ≤ places.end) × (places.end ≤ places.start + 64) }
+        ensures done { (places.start ≤ progress.new.done) × (progress.new.done ≤ places.end) }
+        ensures told { IfOk result (λ k. k ≡ progress.new.done) }
+    {
         let mut pages = pages::zeros::<532480>();
         let mut words = Pen::new(&mut pages, pages::WORDS);
         let first = places.start;
-        let mut next = first;
+        progress.done = first;
         let read = input::read_places(
             &mut rt.stdin(),
             progress,
@@ -116,16 +120,16 @@ impl Going {
                 requires { k < 4294967295 }
             {
                 self.hand_superframe(opened, &mut words, k, superframe)?;
-                next = k + 1;
                 Ok(())
             },
         );
         let end = words.to;
-        progress.done = next;
-        if matches!(read, Err(NotHanded::File(_))) {
+        if let Err(NotHanded::File(_)) = read {
+            // the superframe at which it failed has come, and is not handed on
+            progress.done = progress.done.saturating_sub(1).max(first);
             return read;
         }
-        pages::write(opened, &pages, next.saturating_sub(first), end)?;
+        pages::write(opened, &pages, progress.done - first, end)?;
         read
     }
 }

@@ -10,6 +10,8 @@ mod names; // names.rt: the lines of types and labels
 mod stretch; // stretch.rt: the sixteen label tracks
 mod finish; // finish.rt: what can be written only behind the last superframe
 
+ghost use Rattle.std.specs.Prelude.{◌≤◌, IfOk};
+
 use ending::Fault;
 use files::{FileFault, Opened};
 use going::Going;
@@ -44,7 +46,9 @@ fn hand_rows(
     opened: &Opened,
     going: &mut Going,
     progress: &mut Progress,
-) -> Result<u32, NotHanded> {
+) -> Result<u32, NotHanded>
+    ensures { IfOk result (λ k. k ≤ progress.old.promised) }
+{
     let promised = progress.promised;
     for first in (0..promised).step_by(64) {
         let until = promised.min(first.saturating_add(64));
@@ -61,7 +65,9 @@ fn hand_superframes(
     opened: &Opened,
     going: &mut Going,
     promised: u32,
-) -> Result<u32, NotHanded> {
+) -> Result<u32, NotHanded>
+    ensures { IfOk result (λ k. k ≤ promised) }
+{
     let mut progress = Progress::new(Some(rt.stderr()), promised);
     let handed = hand_rows(rt, opened, going, &mut progress);
     progress.wipe();

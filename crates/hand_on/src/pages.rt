@@ -1,6 +1,6 @@
 // The sound, the marks and the words of up to 64 superframes, before they are written: file f of the first 32 has the 16,384 bytes from 16384 f on,
 // and the words stand behind them.
-ghost use Rattle.std.specs.Prelude.{◌≡◌, ◌<◌, length};
+ghost use Rattle.std.specs.Prelude.{◌≡◌, ◌<◌, ◌≤◌, length};
 
 use crate::files;
 use crate::files::{FileFault, Opened};
@@ -65,13 +65,17 @@ pub fn put(pages: &mut [u8], k: u32, heard: Option<Sound<'_>>) -> Result<(), Fil
 }
 
 // How many bytes n superframes have in a file of sound or of marks.
-fn share(file: u8, n: u32) -> usize {
+fn share(file: u8, n: u32) -> usize
+    requires { n ≤ 64 }
+{
     let bytes = files::sample_bytes(file).unwrap_or(0);
     128 * usize::from(bytes) * n as usize
 }
 
 // A file's part of the pages, n superframes from its start.
-fn write_part(opened: &Opened, file: u8, pages: &[u8], n: u32) -> Result<(), Errno> {
+fn write_part(opened: &Opened, file: u8, pages: &[u8], n: u32) -> Result<(), Errno>
+    requires { n ≤ 64 }
+{
     let part = pages.get(16384 * usize::from(file)..).ok_or(Errno::EIO)?;
     opened.put(file, part, share(file, n))
 }
@@ -82,7 +86,9 @@ fn write_words(opened: &Opened, pages: &[u8], end: usize) -> Result<(), Errno> {
 }
 
 // Writes n superframes, whose words end at a place.
-pub fn write(opened: &Opened, pages: &[u8], n: u32, end: usize) -> Result<(), FileFault> {
+pub fn write(opened: &Opened, pages: &[u8], n: u32, end: usize) -> Result<(), FileFault>
+    requires { n ≤ 64 }
+{
     files::each(0..32, |file| write_part(opened, file, pages, n))?;
     write_words(opened, pages, end).map_err(|error| FileFault { file: 49, error })
 }

@@ -19,7 +19,7 @@ pub fn reach<R: Read>(from: &mut R, header: Header) -> Result<(), Fault>
 }
 
 // Hands on the superframes at some places, from 0, and answers the place of the first that was not: that is behind them, or before where the reel ends.
-// Each is handed on once, in order, and none behind a failure.
+// Each is handed on once, in order, and none behind a failure. `progress` counts those that came, one that was not taken among them.
 pub fn read_places<R: Read, E: From<Fault>, F: FnMut(u32, &[u8; 5120]) -> Result<(), E>>(
     from: &mut R,
     progress: &mut Progress,
@@ -29,6 +29,8 @@ pub fn read_places<R: Read, E: From<Fault>, F: FnMut(u32, &[u8; 5120]) -> Result
     requires { (state : F) (k : _) (superframe : _) → k < places.end → F.pre state k superframe }
     ensures bound { IfOk result (λ k. places.start ≤ places.end → k ≤ places.end) }
     ensures handed { IfOk result (λ k. (last : F) × HandedOn (λ f k g. (superframe : _) × F.step f k superframe (Ok tt) g) places.start take k last) }
+    ensures counted { places.start ≤ progress.old.done → progress.old.done ≤ places.end → (places.start ≤ progress.new.done) × (progress.new.done ≤ places.end) }
+    ensures told { IfOk result (λ k. (places.start ≤ k) × (progress.old.done ≡ places.start → k ≡ progress.new.done)) }
 {
     let mut next = places.start;
     for k in places {

@@ -9,4 +9,8 @@ invariant-loop-k g l =
     (l.k-iterator.end ≡ l.initial.k-iterator.end) ×
     (l.next ≡ l.k-iterator.start) ×
     (l.initial.k-iterator.start ≤ l.initial.k-iterator.end → l.next ≤ l.initial.k-iterator.end) ×
-    HandedOn (λ f k h. (superframe : _) × goal.F-step g f k superframe (Ok tt) h) l.initial.k-iterator.start l.initial.take l.next l.take
+    HandedOn (λ f k h. (superframe : _) × goal.F-step g f k superframe (Ok tt) h) l.initial.k-iterator.start l.initial.take l.next l.take ×
+    (l.initial.k-iterator.start ≤ l.next) ×
+    (l.initial.k-iterator.start ≤ l.initial.progress.done → l.initial.progress.done ≤ l.initial.k-iterator.end
+    → (l.initial.k-iterator.start ≤ l.progress.done) × (l.progress.done ≤ l.initial.k-iterator.end)) ×
+    (l.initial.progress.done ≡ l.initial.k-iterator.start → l.next ≡ l.progress.done)
