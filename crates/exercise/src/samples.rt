@@ -1,4 +1,6 @@
 // The calls on samples, codes and factors.
+ghost use Rattle.std.specs.Prelude.{◌<◌};
+
 use crate::line_words::{Words, number_in};
 use crate::pages::Page;
 use crate::sums;
@@ -20,7 +22,9 @@ pub(crate) fn single<F: Fn(i16, u8) -> Result<i16, Refusal>>(
 }
 
 // What an answer adds to a sum; 65538 where it is refused, which it is with number 2.
-fn weight(answer: Result<i16, Refusal>) -> u32 {
+fn weight(answer: Result<i16, Refusal>) -> u32
+    ensures { result < 65539 }
+{
     answer.map_or(65538, sums::shifted)
 }
 
